@@ -1,0 +1,9 @@
+-- What is believed of the claim table: the vocabulary (Claim, Kinds, Words, Sorts), the meaning (Meaning), and what is refused (Search, Table, Check).
+pub mod Claim
+pub mod Kinds
+pub mod Words
+pub mod Sorts
+pub mod Meaning
+pub mod Search
+pub mod Table
+pub mod Check
