@@ -4,3 +4,10 @@ pub mod Rows
 pub mod Sorts
 pub mod Rules
 pub mod Verdict
+pub mod Words
+pub mod Rowwise
+pub mod Passed
+pub mod Tab
+pub mod Fitting
+pub mod Reading
+pub mod Accepted

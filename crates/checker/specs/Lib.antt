@@ -1,4 +1,5 @@
--- What is believed of the claim table: the vocabulary (Claim, Kinds, Words, Sorts), the meaning (Meaning), and what is refused (Search, Table, Check).
+-- What is believed of the claim table: the vocabulary (Claim, Kinds, Words, Sorts), the meaning (Meaning), and what is refused (Search, Table, Check)
+-- or accepted (Accepted).
 pub mod Claim
 pub mod Kinds
 pub mod Words
@@ -7,3 +8,4 @@ pub mod Meaning
 pub mod Search
 pub mod Table
 pub mod Check
+pub mod Accepted
