@@ -11,3 +11,4 @@ pub mod Tab
 pub mod Fitting
 pub mod Reading
 pub mod Accepted
+pub mod Examples

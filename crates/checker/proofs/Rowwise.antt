@@ -79,8 +79,9 @@ pub record NodeIs (qs : List Quantifier) (done : List Node) (z x y : ℤ) (n : N
   pub sort-is : sort n ≡ sortOf (number z)
   pub fits : Fits qs done n
 
+-- pairs, one to a line
 infixr 60 _▸_
-_▸_ : {A B : Type 0} → A → B → A × B
+pub _▸_ : {A B : Type 0} → A → B → A × B
 a ▸ b = (a, b)
 
 -- After the nodes `done`, of kinds `kind`, under the quantifiers qs, of kinds `quantifier`.
