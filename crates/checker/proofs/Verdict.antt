@@ -43,7 +43,7 @@ module _ (t : Table) (base width root : ℕ) (extra : List Test) (bad : ℕ) (e4
     at-extra n5 h = rw (← e4, ← e5, le-ltb _ _ n4, le-ltb _ _ n5) (h _)
 
     module _ (n5 : t .quantifiers ≤ over) (clear : (ok : Checked) → verdict extra ok ≡ ok) (broken : ℕ) (e6 : broken ≡ first (badNode t) (t .nodes)) where
-      pub at-6 : broken < t .nodes → Refused (nodeRefusal t broken width) ≡ partsOf t base width root extra
+      pub at-6 : broken < t .nodes → Refused (nodeRefusal broken width) ≡ partsOf t base width root extra
       unfolding partsOf verdict quantifierTests nodeTests
       at-6 h = rw (← e4, ← e5, le-ltb _ _ n4, le-ltb _ _ n5, clear _, ← e6, lt-ltb _ _ h)
 

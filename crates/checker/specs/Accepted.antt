@@ -1,5 +1,6 @@
--- What acceptance says of a claim: the limits (01, "Limits") and the counts that are handed on. Assumes nothing.
-use Prim.Native.Nat.{ℕ, _≤_}
+-- What acceptance says of a claim besides that it is well sorted: it is within the limits (01, "Limits"), and these counts are handed on.
+-- Assumes nothing.
+use Prim.Native.Nat.{_≤_}
 use lib.ListN.{length}
 use Rattle.checker.specs.declared.Shape.{Shape}
 use Rattle.checker.specs.Claim.{Claim}

@@ -39,6 +39,7 @@ pub record Test : Type 0 where
 abbrev pub test : Bool → ℕ → ℕ → Test
 test b n p = record { holds = b; gives = refusal n p }
 
+-- the refusal of the first test that holds, and `ok` where none does
 unfoldable pub verdict : List Test → Checked → Checked
 verdict [] ok = ok
 verdict (t ∷ ts) ok = cond (t .holds) (Refused (t .gives)) (verdict ts ok)
@@ -61,24 +62,24 @@ quantifierTests t base =
     ∷ []
 
 -- 6, of node i
-unfoldable pub nodeRefusal : Table → ℕ → ℕ → Refusal
-nodeRefusal t i width = refusal 6 (width * i)
+unfoldable pub nodeRefusal : ℕ → ℕ → Refusal
+nodeRefusal i width = refusal 6 (width * i)
 
--- 6 and 7; a node is `width` words, and the root's number stands at word `root`
+-- 6 and 7; a node is `width` words, and the root's number stands at word `rootPlace`
 unfoldable pub nodeTests : Table → ℕ → ℕ → List Test
-nodeTests t width root =
-    record { holds = ltb (first (badNode t) (t .nodes)) (t .nodes); gives = nodeRefusal t (first (badNode t) (t .nodes)) width }
-    ∷ test (not (rootGood t)) 7 root
+nodeTests t width rootPlace =
+    record { holds = ltb (first (badNode t) (t .nodes)) (t .nodes); gives = nodeRefusal (first (badNode t) (t .nodes)) width }
+    ∷ test (not (rootGood t)) 7 rootPlace
     ∷ []
 
 -- what is said of an accepted table
 unfoldable pub shapeOf : Table → Shape
 shapeOf t = record { nodes = t .nodes; quantifiers = t .quantifiers; sets = count (bindsSet t) (t .quantifiers); root = t .root }
 
--- 4 to 7, and then acceptance. Between 5 and 6 stand the tests `extra` of a form of its own.
+-- 4 to 7, and then acceptance. Between 5 and 6 another stored form may make further tests, `extra`; the words of 01 have none.
 unfoldable pub partsOf : Table → ℕ → ℕ → ℕ → List Test → Checked
-partsOf t base width root extra =
-    verdict (quantifierTests t base) (verdict extra (verdict (nodeTests t width root) (Accepted (shapeOf t))))
+partsOf t base width rootPlace extra =
+    verdict (quantifierTests t base) (verdict extra (verdict (nodeTests t width rootPlace) (Accepted (shapeOf t))))
 
 -- ---- the words of 01
 
@@ -103,9 +104,11 @@ tableAt ws n q =
       quantifier = quantifierKind ws n;
     }
 
+-- what follows 1 to 3
 unfoldable pub restOf : List ℤ → ℕ → ℕ → Checked
 restOf ws n q = partsOf (tableAt ws n q) (3 * n) 3 (length ws - 4) []
 
+-- What the checker answers for the words ws.
 unfoldable pub checkOf : List ℤ → Checked
 checkOf ws =
     verdict (shapeTests (length ws) (eqb (wordAt ws (length ws - 1)) mark) (nodesIn ws) (quantifiersIn ws) 3)

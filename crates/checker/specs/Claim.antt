@@ -5,7 +5,7 @@ use mathlib.Core.List.{List}
 use Prim.Native.Nat.{ℕ}
 use lib.IntN.{ℤ}
 
--- A node, by its kind. `q` is a quantifier's number, `a` and `b` are numbers of earlier nodes, `c` is any word.
+-- A node, by its kind. `q` is a quantifier's number, `a` and `b` are numbers of earlier nodes, `c` is any integer.
 -- `unknown` is what a kind outside the table reads as; no accepted claim has one.
 pub data Node : Type 0 where
   setVar : (q : ℕ) → Node

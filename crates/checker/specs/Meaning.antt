@@ -12,7 +12,8 @@ use Rattle.checker.specs.Claim.{Node, setVar, empty, whole, union, inter
 
 -- ---- the value of a node
 
--- A set is given by its members: of ports in the plain meaning, of regions where a claim is worked out over counts.
+-- A set is given by its members: ports, as the elements are called here, in the plain meaning, and regions where a claim is worked out over
+-- counts.
 abbrev pub Set : Type 0
 Set = ℕ → Bool
 
@@ -62,39 +63,39 @@ pub record World : Type 0 where
   pub same : Set → Set → Bool
   pub within : Set → Set → Bool
 
--- A node's value, from the quantifiers' values `qs` and the earlier nodes' values `vs`.
+-- A node's value, from the quantifiers' values `us` and the earlier nodes' values `vs`.
 unfoldable pub valueOf : World → List Value → List Value → Node → Value
-valueOf w qs vs (setVar q) = set (setAt qs q)
-valueOf w qs vs empty = set (λ p. false)
-valueOf w qs vs whole = set (λ p. true)
-valueOf w qs vs (union a b) = set (λ p. setAt vs a p || setAt vs b p)
-valueOf w qs vs (inter a b) = set (λ p. setAt vs a p && setAt vs b p)
-valueOf w qs vs (compl a) = set (λ p. not (setAt vs a p))
-valueOf w qs vs (numVar q) = num (numAt qs q)
-valueOf w qs vs (const c) = num c
-valueOf w qs vs maxc = num (pos (w .size))
-valueOf w qs vs (sum a b) = num (numAt vs a +ℤ numAt vs b)
-valueOf w qs vs (diff a b) = num (numAt vs a -ℤ numAt vs b)
-valueOf w qs vs (multiple c b) = num (c *ℤ numAt vs b)
-valueOf w qs vs (card a) = num (pos (w .count (setAt vs a)))
-valueOf w qs vs (equal a b) = truth (eqZ (numAt vs a) (numAt vs b))
-valueOf w qs vs (less a b) = truth (ltZ (numAt vs a) (numAt vs b))
-valueOf w qs vs (divided c b) = truth (divides c (numAt vs b))
-valueOf w qs vs (setEqual a b) = truth (w .same (setAt vs a) (setAt vs b))
-valueOf w qs vs (subset a b) = truth (w .within (setAt vs a) (setAt vs b))
-valueOf w qs vs (conj a b) = truth (truthAt vs a && truthAt vs b)
-valueOf w qs vs (disj a b) = truth (truthAt vs a || truthAt vs b)
-valueOf w qs vs (neg a) = truth (not (truthAt vs a))
-valueOf w qs vs unknown = truth false
+valueOf w us vs (setVar q) = set (setAt us q)
+valueOf w us vs empty = set (λ p. false)
+valueOf w us vs whole = set (λ p. true)
+valueOf w us vs (union a b) = set (λ p. setAt vs a p || setAt vs b p)
+valueOf w us vs (inter a b) = set (λ p. setAt vs a p && setAt vs b p)
+valueOf w us vs (compl a) = set (λ p. not (setAt vs a p))
+valueOf w us vs (numVar q) = num (numAt us q)
+valueOf w us vs (const c) = num c
+valueOf w us vs maxc = num (pos (w .size))
+valueOf w us vs (sum a b) = num (numAt vs a +ℤ numAt vs b)
+valueOf w us vs (diff a b) = num (numAt vs a -ℤ numAt vs b)
+valueOf w us vs (multiple c b) = num (c *ℤ numAt vs b)
+valueOf w us vs (card a) = num (pos (w .count (setAt vs a)))
+valueOf w us vs (equal a b) = truth (eqZ (numAt vs a) (numAt vs b))
+valueOf w us vs (less a b) = truth (ltZ (numAt vs a) (numAt vs b))
+valueOf w us vs (divided c b) = truth (divides c (numAt vs b))
+valueOf w us vs (setEqual a b) = truth (w .same (setAt vs a) (setAt vs b))
+valueOf w us vs (subset a b) = truth (w .within (setAt vs a) (setAt vs b))
+valueOf w us vs (conj a b) = truth (truthAt vs a && truthAt vs b)
+valueOf w us vs (disj a b) = truth (truthAt vs a || truthAt vs b)
+valueOf w us vs (neg a) = truth (not (truthAt vs a))
+valueOf w us vs unknown = truth false
 
 -- The values of all nodes, in node order; `vs` are those that stand already.
 unfoldable pub values : World → List Value → List Value → List Node → List Value
-values w qs vs [] = vs
-values w qs vs (n ∷ ns) = values w qs (vs ++ valueOf w qs vs n ∷ []) ns
+values w us vs [] = vs
+values w us vs (n ∷ ns) = values w us (vs ++ valueOf w us vs n ∷ []) ns
 
 -- The claim without its quantifiers, at the quantifiers' values.
 unfoldable pub matrix : World → Claim → List Value → Bool
-matrix w c qs = truthAt (values w qs [] (c .nodes)) (c .root)
+matrix w c us = truthAt (values w us [] (c .nodes)) (c .root)
 
 -- ---- truth at size N
 
@@ -127,13 +128,13 @@ abbrev pub Quantified : Bool → (A : Type 0) → (A → Type 0) → Type 0
 Quantified true A P = (a : A) × P a
 Quantified false A P = (a : A) → P a
 
--- The claim holds at size N, its outer quantifiers having the values `vs` and its inner ones being `qs`.
+-- The claim holds at size N, its outer quantifiers having the values `us` and its inner ones being `qs`.
 -- Set quantifiers range over F, `members` giving the set that each stands for.
 abbrev pub Holds : (F : Type 0) → (F → Set) → ℕ → Claim → List Quantifier → List Value → Type 0
-Holds F members N c [] vs = matrix (ports N) c vs ≡ true
-Holds F members N c (intQ some ∷ qs) vs = Quantified some ℤ (λ k. Holds F members N c qs (vs ++ num k ∷ []))
-Holds F members N c (setQ some ∷ qs) vs = Quantified some F (λ f. Holds F members N c qs (vs ++ set (members f) ∷ []))
-Holds F members N c (countQ some ∷ qs) vs = Quantified some ℕ (λ k. Holds F members N c qs (vs ++ num (pos k) ∷ []))
+Holds F members N c [] us = matrix (ports N) c us ≡ true
+Holds F members N c (intQ some ∷ qs) us = Quantified some ℤ (λ k. Holds F members N c qs (us ++ num k ∷ []))
+Holds F members N c (setQ some ∷ qs) us = Quantified some F (λ f. Holds F members N c qs (us ++ set (members f) ∷ []))
+Holds F members N c (countQ some ∷ qs) us = Quantified some ℕ (λ k. Holds F members N c qs (us ++ num (pos k) ∷ []))
 
 -- A subset of N ports.
 pub record Subset (N : ℕ) : Type 0 where

@@ -62,6 +62,6 @@ badQuantifier t i = not (isKnown (rangeOf (t .quantifier i)))
 unfoldable pub bindsSet : Table → ℕ → Bool
 bindsSet t i = overSets (rangeOf (t .quantifier i))
 
--- quantifier i is a set quantifier, and there are `limit` before it
+-- quantifier i is a set quantifier, and `limit` set quantifiers stand before it
 unfoldable pub oneTooMany : ℕ → Table → ℕ → Bool
 oneTooMany limit t i = bindsSet t i && eqb (count (bindsSet t) i) limit

@@ -14,7 +14,7 @@ use Rattle.checker.specs.Kinds.{number, nodeOf, quantifierOf}
 abbrev pub word : List ℤ → ℕ → ℤ
 word ws i = getD ws i (pos 0)
 
--- the same as a number
+-- the same as a number, `noNumber` if it is negative
 unfoldable pub wordAt : List ℤ → ℕ → ℕ
 wordAt ws i = number (word ws i)
 
@@ -40,6 +40,7 @@ nodeAt ws i = nodeOf (word ws (3 * i)) (word ws (3 * i + 1)) (word ws (3 * i + 2
 abbrev pub quantifierAt : List ℤ → ℕ → ℕ → Quantifier
 quantifierAt ws n i = quantifierOf (word ws (3 * n + i))
 
+-- The claim that words are read as. Only that of accepted words is looked at.
 unfoldable pub claimOf : List ℤ → Claim
 claimOf ws =
     record {
