@@ -1,0 +1,51 @@
+-- `region::put_difference` meets its contract: the bits of one word that another has not. Assumes nothing.
+use borrow.Author.Needs.{needs}
+use lib.ListN.{getD}
+use Rattle.region.specs.Pattern.{patternBits, coversAt}
+use Rattle.region.proofs.Bits.{covers-minus}
+use Rattle.region.proofs.Pattern.{put-word}
+use Rattle.region.proofs.put_difference.Statement.{statement}
+use Rattle.region.proofs.put_difference.Tie as tie
+
+mul-patterns : tie.Need-mul-patterns
+mul-patterns c = search needs
+
+slice-read-patterns : tie.Need-slice-read-patterns
+slice-read-patterns c = search needs
+
+mul-patterns-2 : tie.Need-mul-patterns-2
+mul-patterns-2 c = search needs
+
+slice-read-patterns-2 : tie.Need-slice-read-patterns-2
+slice-read-patterns-2 c = search needs
+
+mul-patterns-3 : tie.Need-mul-patterns-3
+mul-patterns-3 c = search needs
+
+slice-write-patterns : tie.Need-slice-write-patterns
+slice-write-patterns c = search needs
+
+same-length : tie.Need-same-length
+same-length c = search needs
+
+returns : tie.Need-returns
+unfolding coversAt
+returns c =
+    let start = c .before .before in
+    let p = getD (start .args .patterns .now) (start .args .a) 0 in
+    let q = getD (start .args .patterns .now) (start .args .b) 0 in
+    let fits = c .slice-known2 .given in
+    put-word _ (start .pre .0) (λ r. covers-minus patternBits p q r (fits (start .args .a) .fits) (fits (start .args .b) .fits))
+
+pub put-difference-spec : {M : Type 1} → statement M
+put-difference-spec =
+    tie.close
+    (tie.spec
+    mul-patterns
+    slice-read-patterns
+    mul-patterns-2
+    slice-read-patterns-2
+    mul-patterns-3
+    slice-write-patterns
+    same-length
+    returns)
