@@ -1,15 +1,15 @@
 -- The bits of a number: by recursion on the place, and what the operations on words make of them. For any number of bits.
 -- Assumes nothing.
-use mathlib.Core.Path.{_≡_, refl, _∙_}
+use mathlib.Core.Path.{_≡_, refl, sym, _∙_, ap}
 use mathlib.Core.Bool.{Bool, true, false, not, xor, _&&_, _||_, and-true}
 use Prim.Native.Nat.{ℕ, zero, suc, _+_, _-_, _*_, _/_, _%_, _^_, _≤_, _<_}
 use native.Mathlib.Decide.{decLe}
-use native.Mathlib.Nat.{div-one, div-eq-of-lt, zero-div, mod-lt, pow-suc, zero-lt-suc, lt-of-lt-of-le}
-use native.Mathlib.Numerals.{one-add}
+use native.Mathlib.Nat.{div-one, pow-succ', div-eq-of-lt, zero-div, mod-lt, pow-suc, zero-lt-suc, lt-of-lt-of-le}
+use native.Mathlib.Numerals.{add-one, one-add}
 use native.Mathlib.Omega.{arith}
 use borrow.Author.Tests.{lt-ltb, le-ltb}
 use lib.Dec.{eqb, ltb, leb·zero, leb·suc-zero, leb·suc-suc}
-use lib.Pow.{pow-pos, pow-mono, shr-shr}
+use lib.Pow.{pow-pos, pow-mono, shr-shr, high}
 use lib.Bits.{bitAnd, bitOr, bitXor, and-shr, or-shr, xor-shr, and-mod, or-mod, xor-mod}
 use Rattle.checker.specs.Meaning.{Set, bit}
 use Rattle.region.specs.Regions.{half, odd}
@@ -38,6 +38,15 @@ covers-of-zero r = rw zero-div
 pub covers-high : (k p r : ℕ) → p < 2 ^ k → k ≤ r → covers p r ≡ false
 unfolding covers
 covers-high k p r h l = rw (div-eq-of-lt (lt-of-lt-of-le h (pow-mono l)))
+
+-- the highest bit of a number of m bits and no fewer
+pub covers-last : (m p r : ℕ) → p < 2 ^ m → 2 ^ m ≤ 2 * p + 1 → r + 1 ≡ m → covers p r ≡ true
+unfolding covers
+covers-last m p r h k e =
+    let twice : 2 ^ m ≡ 2 * 2 ^ r = ap (λ (n : ℕ). 2 ^ n) (sym e ∙ add-one r) ∙ pow-succ' 2 r in
+    let parts : p ≡ 1 * 2 ^ r + (p - 2 ^ r) = omega arith in
+    let one : p / 2 ^ r ≡ 1 = ap (λ (n : ℕ). n / 2 ^ r) parts ∙ high 1 r (omega arith) in
+    rw one
 
 -- ---- operations on two numbers
 

@@ -109,11 +109,6 @@ tally-first (suc N) r k i =
 
 -- ---- lists of counts
 
-pub tab-at {ℓ} : {A : Type ℓ} (n : ℕ) (f : ℕ → A) (i : ℕ) (d : A) → i < n → getD (tab n f) i d ≡ f i
-tab-at zero f i d h = absurd (omega arith)
-tab-at (suc n) f zero d h = refl
-tab-at (suc n) f (suc i) d h = tab-at n (λ j. f (suc j)) i d (omega arith)
-
 twice-suc : (i : ℕ) → 2 * suc i ≡ suc (suc (2 * i))
 twice-suc i = omega arith
 

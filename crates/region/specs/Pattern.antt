@@ -1,9 +1,9 @@
 -- Patterns: the regions that a set covers, as bits of words in a lent table with one entry a node (01, "Regions").
 -- Assumes nothing.
 use mathlib.Core.Path.{_≡_}
-use mathlib.Core.Bool.{Bool}
+use mathlib.Core.Bool.{Bool, true, false}
 use mathlib.Core.List.{List}
-use Prim.Native.Nat.{ℕ, _-_, _/_, _%_, _^_}
+use Prim.Native.Nat.{ℕ, _+_, _-_, _/_, _%_, _^_, _≤_}
 use lib.Dec.{eqb}
 use lib.ListN.{length, getD}
 use Rattle.checker.specs.Meaning.{Set}
@@ -30,3 +30,9 @@ pub record Put (before : List ℕ) (i : ℕ) (wanted : Set) (after : List ℕ) :
   pub long : length after ≡ length before
   pub kept : (j : ℕ) → (j ≡ i → ⊥) → (r : ℕ) → coversAt after j r ≡ coversAt before j r
   pub entry : (r : ℕ) → coversAt after i r ≡ wanted r
+
+-- Of the regions that a pattern has room for, n is one past the last that w covers; 0 if it covers none.
+pub record End (w : Set) (n : ℕ) : Type 0 where
+  pub room : n ≤ patternBits
+  pub past : (r : ℕ) → n ≤ r → w r ≡ false
+  pub last : (r : ℕ) → r + 1 ≡ n → w r ≡ true

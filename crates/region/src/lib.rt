@@ -9,7 +9,7 @@ ghost use lib.Dec.{ltb};
 ghost use lib.ListN.{length};
 ghost use Rattle.checker.specs.Check.{maxSets};
 ghost use Rattle.region.specs.Regions.{minus, over};
-ghost use Rattle.region.specs.Pattern.{covers, patternBits, coversAt, regionsFrom, Put};
+ghost use Rattle.region.specs.Pattern.{covers, patternBits, coversAt, regionsFrom, Put, End};
 
 // How many regions a pattern has room for.
 const BITS: usize = 64;
@@ -120,6 +120,14 @@ pub fn next(patterns: &[u64], i: usize, from: usize) -> usize
     ensures { λ r. ⌜ (r < patternBits) × (from ≤ r) × (regionsFrom (now (patterns .entry)) i from ≡ r ∷ regionsFrom (now (patterns .entry)) i (r + 1)) ⌝ }
 {
     from + u64::trailing_zeros(patterns[i] >> from) as usize
+}
+
+// One past the last region that entry i covers; 0 if it covers none.
+pub fn end(patterns: &[u64], i: usize) -> usize
+    requires { ⌜ i < length (now patterns) ⌝ }
+    ensures { λ n. ⌜ End (coversAt (now (patterns .entry)) i) n ⌝ }
+{
+    BITS - u64::leading_zeros(patterns[i]) as usize
 }
 
 // How many ports are in the regions that entry i covers. This is where a decision spends its time, so only covered regions are visited.
