@@ -1,0 +1,12 @@
+pub mod Lists
+pub mod Modulo
+pub mod Agreement
+pub mod Asserted
+pub mod Formed
+pub mod Plain
+pub mod Lines
+pub mod Numbers
+pub mod Expressions
+pub mod ReadLines
+pub mod Reading
+pub mod Samples
