@@ -6,6 +6,7 @@ use mathlib.Core.Bool.{Bool, true, false, not, cond, true≢false}
 use mathlib.Core.List.{List, [], _∷_, _++_}
 use Prim.Native.Nat.{ℕ, zero, suc}
 use native.Mathlib.Omega.{arith}
+use borrow.Author.Tests.{eq-eqb}
 use lib.Dec.{leb·suc-zero, eqb}
 use lib.IntN.{ℤ, pos, negsuc}
 use lib.ListN.{length, getD}
@@ -16,7 +17,7 @@ use Rattle.checker.specs.Meaning.{Value, num, truth, asNum, asTruth, numAt, tru
 use Rattle.region.proofs.Quantified.{quantified-same}
 use Rattle.sentence.specs.Smt.{theSize, variable, result, Expr, named, says, Env, bind, eval, Guarded, Means}
 use Rattle.sentence.specs.Sentences.{plain, AllPlain, node, wholeNumber, divisible, exprOf, notNegative, lets, closed, sized}
-use Rattle.sentence.proofs.Lists.{eqb-same, getD-snoc, length-snoc}
+use Rattle.sentence.proofs.Lists.{getD-snoc, length-snoc}
 use Rattle.sentence.proofs.Modulo.{divides-positive, divides-negative}
 
 -- ---- values that every operator takes alike
@@ -149,7 +150,7 @@ at-least (pos (suc k)) = rw (leb·suc-zero (suc k))
 at-least (negsuc k) = refl
 
 variable-at-least : (env : Env) (i : ℕ) (z : ℤ) → asTruth (eval (bind env (variable i) (num z)) (notNegative (named (variable i)))) ≡ nonNeg z
-variable-at-least env i z = rw (eqb-same i) (at-least z)
+variable-at-least env i z = rw (eq-eqb i i refl) (at-least z)
 
 module _ (N : ℕ) (c : Claim) (p : AllPlain (c .nodes)) where
   pub closed-means : (qs : List Quantifier) (env : Env) (us : List Value) → sets qs ≡ 0 → Agrees N env us []

@@ -1,15 +1,11 @@
--- A list with one more element at its end, and numbers that are told apart. Assumes nothing.
+-- A list with one more element at its end. Assumes nothing.
 use mathlib.Core.Path.{_≡_, refl, _∙_}
-use mathlib.Core.Bool.{true, cond}
+use mathlib.Core.Bool.{cond}
 use mathlib.Core.List.{List, [], _∷_, _++_}
 use Prim.Native.Nat.{ℕ, zero, suc}
 use native.Mathlib.Numerals.{add-one}
 use lib.Dec.{eqb, eqb·zero-suc, eqb·suc-zero, eqb·suc-suc}
 use lib.ListN.{length, getD, length-append}
-
-pub eqb-same : (n : ℕ) → eqb n n ≡ true
-eqb-same zero = refl
-eqb-same (suc n) = eqb·suc-suc n n ∙ eqb-same n
 
 module _ {A : Type 0} where
   pub getD-snoc : (vs : List A) (v d : A) (j : ℕ) → getD (vs ++ v ∷ []) j d ≡ cond (eqb (length vs) j) v (getD vs j d)

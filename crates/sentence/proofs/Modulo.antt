@@ -1,11 +1,10 @@
 -- `modZ` is SMT-LIB's mod, and a remainder of 0 is divisibility. Assumes nothing.
 use mathlib.Core.Path.{_≡_, refl, sym, ap, _∙_}
-use mathlib.Core.Bool.{false}
 use Prim.Native.Nat.{ℕ, zero, suc, _+_, _*_, _-_, _%_, _/_, _<_, _≤_}
 use native.Mathlib.Nat.{suc-mod, mod-lt, mod-eq-of-lt, mod-self, div-add-mod, mul-suc}
 use native.Mathlib.Decide.{decLt}
 use native.Mathlib.Omega.{arith}
-use borrow.Author.Tests.{lt-ltb}
+use borrow.Author.Tests.{lt-ltb, ne-eqb}
 use lib.Dec.{eqb, eqb·zero-suc, eqb·suc-zero}
 use lib.IntN.{ℤ, pos, negsuc, natAbs, negℤ, subℕ, _*ℤ_, *ℤ-zero}
 use Rattle.checker.specs.Meaning.{eqZ, divides}
@@ -69,13 +68,6 @@ modulo-right t (negsuc k) h =
 
 -- ---- divisibility
 
-below-zero : (k r : ℕ) → r < k → eqb (k - r) 0 ≡ false
-below-zero k r h = go (k - r) (omega arith)
-  where
-    go : (d : ℕ) → 0 < d → eqb d 0 ≡ false
-    go zero l = absurd (omega arith)
-    go (suc d) l = eqb·suc-zero d
-
 negative : (m k : ℕ) → eqb (suc k - 1 - m % suc k) 0 ≡ eqb (suc m % suc k) 0
 negative m k = go (decLt (m % suc k) k)
   where
@@ -88,7 +80,7 @@ negative m k = go (decLt (m % suc k) k)
     go : Dec (m % suc k < k) → eqb (suc k - 1 - m % suc k) 0 ≡ eqb (suc m % suc k) 0
     go (yes h) =
         let f : suc (m % suc k) < suc k = omega arith in
-        rw (e, below-zero k (m % suc k) h, suc-mod m (suc k), mod-eq-of-lt f) (sym (eqb·suc-zero (m % suc k)))
+        rw (e, ne-eqb (k - m % suc k) 0 (λ g. omega arith), suc-mod m (suc k), mod-eq-of-lt f) (sym (eqb·suc-zero (m % suc k)))
     go (no h) =
         let f : m % suc k ≡ k = omega (arith, top) in
         let g : k - k ≡ 0 = omega arith in
