@@ -1,0 +1,15 @@
+use native.Mathlib.Omega.{arith}
+use lib.IntN.{_+ℤ_}
+use mir.Syntax.{w32}
+use Rattle.matrix.proofs.Words.{result-fits, result-is}
+use Rattle.matrix.proofs.numbers.plus.Statement.{statement}
+use Rattle.matrix.proofs.numbers.plus.Tie as tie
+
+add-result : tie.Need-add-result
+add-result c = result-fits w32 _+ℤ_ (c .args .x) (c .args .y) (c .fits .x) (c .fits .y) (omega (arith, c .pre))
+
+returns : tie.Need-returns
+returns c = result-is w32 _+ℤ_ (c .args .x) (c .args .y) (c .fits .x) (c .fits .y) (omega (arith, c .pre))
+
+pub plus-spec : {M : Type 1} → statement M
+plus-spec = tie.close (tie.spec add-result returns)
