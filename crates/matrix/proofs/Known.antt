@@ -51,7 +51,6 @@ module _ (c : Claim) (N : ℕ) (order : List ℕ) (n : ℕ) where
   order-less m l o =
       record { long = omega (arith, o .long); nodes = λ k h. o .nodes k (omega arith); once = λ j k a b. o .once j k a (omega arith); after = λ k h. o .after k (omega arith) }
 
-
 -- ---- one node more
 
 bit-small : (t : Bool) → natAbs (bitZ t) ≤ maxBound

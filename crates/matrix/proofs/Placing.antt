@@ -61,8 +61,8 @@ module _ (c : Claim) (marks : List Bool) (order : List ℕ) (n : ℕ) (p : Place
         nodes = at-place (λ k x. x < length (c .nodes)) node (p .ordered .nodes);
         once = λ j k l h. apart j k l h (eqb k n) refl;
         after = at-place (λ k x. Every (Has after k) (children (getD (c .nodes) x unknown)))
-        (every-map (λ x. marked marks x ≡ true) (Has after n) (λ x e. had n x (omega arith) (p .all x e)) (children (getD (c .nodes) i unknown)) ready)
-        (λ k h. every-map (Has order k) (Has after k) (λ x e. had k x (omega arith) e) (children (getD (c .nodes) (getD order k 0) unknown)) (p .ordered .after k h));
+            (every-map (λ x. marked marks x ≡ true) (Has after n) (λ x e. had n x (omega arith) (p .all x e)) (children (getD (c .nodes) i unknown)) ready)
+            (λ k h. every-map (Has order k) (Has after k) (λ x e. had k x (omega arith) e) (children (getD (c .nodes) (getD order k 0) unknown)) (p .ordered .after k h));
       };
       all = λ x e. found x e (eqb x i) refl;
       only = at-place (λ k x. marked (set marks i true) x ≡ true) (mark-new marks i inside) (λ k h. mark-still marks i inside (getD order k 0) (p .only k h));
@@ -244,9 +244,12 @@ module _ (c : Claim) (patterns : List ℕ) (filled : Filled c (length (c .nodes)
   module _ (needed placed : List Bool) (reach order : List ℕ) (n : ℕ) (upto : List ℕ) (known : (i : ℕ) → i < length (c .nodes) → Reach patterns i (getD reach i 0))
       (p : Placed c placed order n) (r : Ranked c needed placed reach order n upto (2 ^ sets (c .quantifiers))) where
     pub scheduled : Scheduled patterns (2 ^ sets (c .quantifiers)) order n upto
-    scheduled m h = (r .most m h, λ j _ l q k.
-      let below : getD order j 0 < length (c .nodes) = p .ordered .nodes j (omega (arith, r .most m h)) in
-      settles (getD order j 0) (getD reach (getD order j 0) 0) below (known (getD order j 0) below) q (omega (arith, r .settled m h j l)))
+    scheduled m h = (
+      r .most m h,
+      λ j _ l q k.
+          let below : getD order j 0 < length (c .nodes) = p .ordered .nodes j (omega (arith, r .most m h)) in
+          settles (getD order j 0) (getD reach (getD order j 0) 0) below (known (getD order j 0) below) q (omega (arith, r .settled m h j l)),
+    )
 
     pub root-placed : Closed c needed → c .root < length (c .nodes) → Has order n (c .root)
     root-placed closed h = p .all (c .root) (r .all (λ i l. reaches i (getD reach i 0) l (known i l)) (c .root) h (closed .root))

@@ -46,9 +46,9 @@ module _ (ws : List ℤ) (N : ℕ) (ready : Ready ws N) (patterns : List ℕ) (f
         room = node-room ws (ready .shape) (ready .accepted) i below;
         inside = omega arith;
         earlier = subst (λ n. Every (λ a. (a < i) × (natAbs (word xs a) ≤ maxBound)) (children n)) is-node
-        (next-earlier (claimOf ws) (ok .sorted .0) N (ready .bounded) patterns filled order to ordered k h counts (settled k from h) xs u (can .rest) (can .counts));
+            (next-earlier (claimOf ws) (ok .sorted .0) N (ready .bounded) patterns filled order to ordered k h counts (settled k from h) xs u (can .rest) (can .counts));
         small = subst (λ n. natAbs (work N ports xs n) ≤ maxBound) is-node
-        (next-small (claimOf ws) (ok .sorted .0) N (ready .bounded) patterns filled order to ordered k h counts (settled k from h) xs u (can .rest) (can .counts));
+            (next-small (claimOf ws) (ok .sorted .0) N (ready .bounded) patterns filled order to ordered k h counts (settled k from h) xs u (can .rest) (can .counts));
       }
 
   pub turned : (v : ℤ) → v ≡ work N ports xs (nodeAt ws i) → Known (claimOf ws) N counts order (k + 1) (set xs i v)

@@ -7,7 +7,6 @@ ghost use Rattle.checker.specs.declared.Checked.the-variants.{Accepted};
 ghost use Rattle.checker.specs.Words.{nodeAt, claimOf};
 ghost use Rattle.checker.specs.Check.{checkOf};
 ghost use Rattle.matrix.specs.Bound.{maxBound, boundOf, firstOver};
-
 use checker::Shape;
 
 const MAX_BOUND: u64 = 1000000000;

@@ -15,9 +15,9 @@ ghost use Rattle.matrix.specs.Order.{Has, Order};
 ghost use Rattle.matrix.specs.Known.{Ready, Counts, Open, Known, Settled, Kept, Workable};
 
 pub mod bound;
+mod numbers;
 pub mod order;
 pub mod patterns;
-mod numbers;
 
 // Whether no port is in the regions that entry i covers.
 fn none_in(patterns: &[u64], i: usize, counts: &[u32]) -> bool
@@ -28,7 +28,14 @@ fn none_in(patterns: &[u64], i: usize, counts: &[u32]) -> bool
 }
 
 // The number of node i, from those of its children.
-fn value(words: &[i32], patterns: &[u64], size: u32, counts: &[u32], values: &[i32], i: usize) -> i32
+fn value(
+    words: &[i32],
+    patterns: &[u64],
+    size: u32,
+    counts: &[u32],
+    values: &[i32],
+    i: usize,
+) -> i32
     requires { ⌜ Workable (now words) size (over (coversAt (now patterns) i) (now counts)) (now values) i ⌝ }
     requires { ⌜ (i < length (now patterns)) × (over (λ r. true) (now counts) < 2 ^ 32) ⌝ }
     ensures { λ v. ⌜ v ≡ work size (over (coversAt (now (patterns .entry)) i) (now (counts .entry))) (now (values .entry)) (nodeAt (now (words .entry)) i) ⌝ }
@@ -44,7 +51,10 @@ fn value(words: &[i32], patterns: &[u64], size: u32, counts: &[u32], values: &[i
         15 => numbers::times(a, numbers::child(values, b)),
         16 => numbers::signed(region::ports_in(patterns, i, counts)),
         20 => numbers::bit_of(numbers::same(numbers::child(values, a), numbers::child(values, b))),
-        21 => numbers::bit_of(numbers::smaller(numbers::child(values, a), numbers::child(values, b))),
+        21 => numbers::bit_of(numbers::smaller(
+            numbers::child(values, a),
+            numbers::child(values, b),
+        )),
         22 => numbers::bit_of(numbers::divided(a, numbers::child(values, b))),
         23 => numbers::bit_of(none_in(patterns, i, counts)),
         24 => numbers::bit_of(none_in(patterns, i, counts)),

@@ -13,7 +13,6 @@ ghost use Rattle.matrix.specs.Work.{children, Every};
 ghost use Rattle.matrix.specs.Order.{Has, Order};
 ghost use Rattle.matrix.specs.Arranged.{listed, marked, Marked, Closed, Reach, Placed, Placeable, Passed, Ranked};
 ghost use Rattle.matrix.specs.Known.{Settled, Scheduled};
-
 use checker::Shape;
 
 // The nodes whose numbers a node's own is worked out from: none, the first, or both.
@@ -156,7 +155,15 @@ fn fill_reach(patterns: &[u64], n: usize, reach: &mut [usize])
 }
 
 // Whether node i can be placed next.
-fn placeable(words: &[i32], shape: Shape, needed: &[bool], placed: &[bool], reach: &[usize], m: usize, i: usize) -> bool
+fn placeable(
+    words: &[i32],
+    shape: Shape,
+    needed: &[bool],
+    placed: &[bool],
+    reach: &[usize],
+    m: usize,
+    i: usize,
+) -> bool
     requires { ⌜ checkOf (now words) ≡ Accepted shape ⌝ }
     requires { ⌜ (i < shape .nodes) × (i < length (now needed)) × (i < length (now placed)) × (i < length (now reach)) ⌝ }
     ensures { λ r. ⌜ (r ≡ true → Placeable (claimOf (now (words .entry))) (now (needed .entry)) (now (placed .entry)) (now (reach .entry)) m i) ⌝ }
@@ -245,7 +252,13 @@ fn place_all(
 }
 
 // The order of a claim's nodes, and for each number of first regions how many places these settle. How many places there are.
-pub fn arrange(words: &[i32], shape: Shape, patterns: &[u64], order: &mut [usize], upto: &mut [usize]) -> usize
+pub fn arrange(
+    words: &[i32],
+    shape: Shape,
+    patterns: &[u64],
+    order: &mut [usize],
+    upto: &mut [usize],
+) -> usize
     requires { ⌜ checkOf (now words) ≡ Accepted shape ⌝ }
     requires { ⌜ Filled (claimOf (now words)) (shape .nodes) (now patterns) ⌝ }
     requires { ⌜ (shape .nodes ≤ length (now order)) × (2 ^ shape .sets < length (now upto)) ⌝ }

@@ -10,7 +10,6 @@ ghost use Rattle.checker.specs.Words.{claimOf};
 ghost use Rattle.checker.specs.Sorts.{isSetQ, sets};
 ghost use Rattle.checker.specs.Check.{checkOf};
 ghost use Rattle.matrix.specs.Entry.{Filled, Beyond};
-
 use checker::Shape;
 
 // Whether quantifier j ranges over sets.

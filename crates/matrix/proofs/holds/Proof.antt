@@ -70,10 +70,10 @@ returns c =
     let is = p .0 .2 in
     let xs = e .last .1 .1 .1 .1 .1 .0 in (
       c .same .ensures
-      ∙ ap (λ z. eqZ z (pos 1)) (toZ-ofZ {w = w32} {z = word xs (s .args .root)} (sfits-of (c .before .same-arg .given)))
-      ∙ ap (says xs) is
-      ∙ root-says (claimOf (s .args .words .now)) (s .args .size) (s .args .counts .now) (s .args .order .now) (s .args .rows) xs (ok .sorted .1) (p .1 .1 .0) (e .ensures .0)
-      (rw is at (p .0 .1)),
+          ∙ ap (λ z. eqZ z (pos 1)) (toZ-ofZ {w = w32} {z = word xs (s .args .root)} (sfits-of (c .before .same-arg .given)))
+          ∙ ap (says xs) is
+          ∙ root-says (claimOf (s .args .words .now)) (s .args .size) (s .args .counts .now) (s .args .order .now) (s .args .rows) xs (ok .sorted .1) (p .1 .1 .0) (e .ensures .0)
+          (rw is at (p .0 .1)),
       e .ensures .1,
     )
 

@@ -100,7 +100,7 @@ loop-again c =
       bounds-next N claim (l d .bounds) (l d .i) (below d) (l d .inv .1) (c .before .bound-of .result) is (inside d),
       small-next N claim (l d .bounds) (l d .i) (below d) (l d .inv .1) (c .before .bound-of .result) is (inside d) (c .if1 .left) (l d .inv .2),
       upto-more (overBound N claim) (length (claim .nodes)) (l d .i) (l d .inv .3) (below d)
-      (not-over N claim (l d .bounds) (l d .i) (below d) (l d .inv .1) (c .before .bound-of .result) is (c .if1 .left)),
+          (not-over N claim (l d .bounds) (l d .i) (below d) (l d .inv .1) (c .before .bound-of .result) is (c .if1 .left)),
     )
 
 returns-2 : tie.Need-returns-2 Inv-loop μ-loop

@@ -85,11 +85,11 @@ returns c =
       (
         e .ensures .0 .ordered,
         root-placed claim (s .args .patterns .now) (filled s) (ok .limited .few-sets) (marks .last .1 .1 .0) (e .last .1 .1 .1 .1 .0) (reached .last .1 .1 .0) (e .last .1 .1 .1 .1 .1 .0) (e .result) (e .last .1 .1 .1 .1 .1 .1 .0) known (e .ensures .0) ranked
-        (marks .ensures) (ok .sorted .1 .0),
+            (marks .ensures) (ok .sorted .1 .0),
         omega (arith, counted s, placed-few claim (s .args .patterns .now) (filled s) (ok .limited .few-sets) (marks .last .1 .1 .0) (e .last .1 .1 .1 .1 .0) (reached .last .1 .1 .0) (e .last .1 .1 .1 .1 .1 .0) (e .result) (e .last .1 .1 .1 .1 .1 .1 .0) known (e .ensures .0) ranked),
       ),
       subst (λ k. Scheduled (s .args .patterns .now) (2 ^ k) (e .last .1 .1 .1 .1 .1 .0) (e .result) (e .last .1 .1 .1 .1 .1 .1 .0)) (sym (sets-are s))
-      (scheduled claim (s .args .patterns .now) (filled s) (ok .limited .few-sets) (marks .last .1 .1 .0) (e .last .1 .1 .1 .1 .0) (reached .last .1 .1 .0) (e .last .1 .1 .1 .1 .1 .0) (e .result) (e .last .1 .1 .1 .1 .1 .1 .0) known (e .ensures .0) ranked),
+          (scheduled claim (s .args .patterns .now) (filled s) (ok .limited .few-sets) (marks .last .1 .1 .0) (e .last .1 .1 .1 .1 .0) (reached .last .1 .1 .0) (e .last .1 .1 .1 .1 .1 .0) (e .result) (e .last .1 .1 .1 .1 .1 .1 .0) known (e .ensures .0) ranked),
     )
 
 pub arrange-spec : {M : Type 1} → statement M

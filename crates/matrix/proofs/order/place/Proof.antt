@@ -106,7 +106,7 @@ loop-again-2 c =
       l e .inv .1,
       l e .inv .2,
       passing-skip (claimOf (s e .args .words .now)) (s e .args .needed .now) (s e .args .reach .now) (s e .args .m) (s e .args .order .now) (s e .args .rows) (l e .placed) (l e .order) (l e .n) (l e .i) (l e .inv .3)
-      (sorted e) (s e .pre .1 .1 .0) (below e) (λ q. false≢true (sym (c .if1 .left) ∙ c .before .placeable .ensures .1 q)),
+          (sorted e) (s e .pre .1 .1 .0) (below e) (λ q. false≢true (sym (c .if1 .left) ∙ c .before .placeable .ensures .1 q)),
     )
 
 same-length : tie.Need-same-length Inv-loop μ-loop

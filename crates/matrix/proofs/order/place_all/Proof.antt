@@ -81,7 +81,7 @@ loop-again c =
       length-set (l d .upto) (l d .m) (e .result) ∙ l d .inv .2,
       e .ensures .0,
       ranking-next (claimOf (s d .args .words .now)) (s d .args .needed .now) (s d .args .reach .now) (2 ^ s d .args .shape .sets) (l d .placed) (l d .order) (l d .n) (l d .upto) (l d .m) (l d .inv .4)
-      (e .last .1 .1 .1 .1 .1 .0) (e .last .1 .1 .1 .1 .1 .1 .0) (e .result) (e .ensures .1) (room d) (within d),
+          (e .last .1 .1 .1 .1 .1 .0) (e .last .1 .1 .1 .1 .1 .1 .0) (e .result) (e .ensures .1) (room d) (within d),
     )
 
 same-length : tie.Need-same-length Inv-loop μ-loop

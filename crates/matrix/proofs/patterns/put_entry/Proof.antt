@@ -138,7 +138,7 @@ module _ (c : lts.After-word3 told reads.Pre reads.Post) where
       → Filled claim (i + 1) after × Beyond (i + 1) (s .args .patterns .now) after
   stored k e wanted after put is = (
     filled-next claim i inside (s .args .patterns .now) (s .pre .1 .1) wanted after (s .pre .1 .0 .1) put
-    (λ w r. is w r ∙ ap (λ n. there r && entryOf (finalValues (claim .quantifiers)) (vs w) n r) (sym (made k e))),
+        (λ w r. is w r ∙ ap (λ n. there r && entryOf (finalValues (claim .quantifiers)) (vs w) n r) (sym (made k e))),
     beyond-next claim i inside (s .args .patterns .now) (s .pre .1 .1) wanted after (s .pre .1 .0 .1) put,
   )
 
