@@ -1,0 +1,15 @@
+-- What is proved of the rule and its answers.
+pub mod Tries
+pub mod Truth
+pub mod Alike
+pub mod Threshold
+pub mod Small
+pub mod Answer
+pub mod Steps
+pub mod Total
+pub mod Admitted
+pub mod Demand
+pub mod Heap
+pub mod Levels
+pub mod Settling
+pub mod Shapes

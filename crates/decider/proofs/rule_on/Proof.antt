@@ -1,0 +1,200 @@
+use mathlib.Core.Path.{_≡_, sym, ap, subst, _∙_}
+use mathlib.Core.List.{List, [], _∷_}
+use Prim.Native.Nat.{ℕ, _+_, _-_, _^_, _≤_, zero-le}
+use native.Mathlib.Nat.{add-zero, pow-le-pow-right}
+use native.Mathlib.Omega.{arith}
+use lib.IntN.{ℤ}
+use lib.ListN.{length}
+use lib.Pow.{pow-pos}
+use Rattle.checker.specs.Claim.{Claim}
+use Rattle.checker.specs.Words.{claimOf}
+use Rattle.checker.specs.Sorts.{sets}
+use Rattle.checker.specs.Check.{checkOf}
+use Rattle.checker.proofs.Search.{first-le}
+use Rattle.region.specs.Regions.{over}
+use Rattle.matrix.specs.Bound.{overBound}
+use Rattle.matrix.specs.Entry.{Filled}
+use Rattle.matrix.specs.Order.{Has, Order}
+use Rattle.matrix.specs.Known.{Ready, Scheduled}
+use Rattle.matrix.proofs.Known.{known-none}
+use Rattle.decider.specs.Rule.{rule}
+use Rattle.decider.specs.Plan.{planOf, ruling}
+use Rattle.decider.specs.Answer.{reply}
+use Rattle.decider.proofs.Levels.{sets-all}
+use Rattle.decider.proofs.Admitted.{Admitted, admitted}
+use Rattle.decider.proofs.Shapes.{Shaped, shaped}
+use borrow.Author.Needs.{needs}
+use Rattle.decider.proofs.rule_on.Statement.{statement}
+use Rattle.decider.proofs.rule_on.Tie as tie
+
+-- what is known of an admitted claim
+module _ (s : tie.Start) where
+  abbrev ws : List ℤ
+  ws = s .args .words .now
+
+  abbrev claim : Claim
+  claim = claimOf ws
+
+  granted : Admitted (s .args .size) claim (checkOf ws) (s .args .shape)
+  granted = admitted (s .args .size) claim (checkOf ws) (s .args .shape) (s .pre .0)
+
+  shape : Shaped ws (s .args .shape)
+  shape = shaped ws (s .args .shape) (granted .checked)
+
+  -- at most 64 regions
+  few : 2 ^ sets (claim .quantifiers) ≤ 64
+  few = let most : 2 ^ sets (claim .quantifiers) ≤ 2 ^ 6 = pow-le-pow-right (omega arith) (shape .few-sets) in omega arith
+
+  set-count : s .args .shape .quantifiers ≡ sets (claim .quantifiers)
+  set-count = shape .quantifiers-listed ∙ sym (sets-all (claim .quantifiers) (granted .sets))
+
+  ready-claim : Ready ws (s .args .size)
+  ready-claim =
+      record {
+        shape = s .args .shape;
+        accepted = granted .checked;
+        bounded = omega (arith, granted .bounded, first-le (overBound (s .args .size) claim) (length (claim .nodes)));
+      }
+
+-- once the patterns, the order and the kinds stand
+module _ (z : tie.After-fill-kinds) where
+  abbrev start : tie.Start
+  start = z .before .before .before .before .before .before .before .before .before .before .before
+
+  abbrev patterns : List ℕ
+  patterns = z .before .before .before .before .before .before .before .before .before .prepare .last .1 .1 .0
+
+  abbrev order : List ℕ
+  order = z .before .before .before .before .arrange .last .1 .1 .1 .0
+
+  abbrev upto : List ℕ
+  upto = z .before .before .before .before .arrange .last .1 .1 .1 .1 .0
+
+  abbrev kinds : List ℕ
+  kinds = z .fill-kinds .last .1 .1 .0
+
+  abbrev rows : ℕ
+  rows = z .before .before .before .before .arrange .result
+
+  abbrev regions : ℕ
+  regions = z .fill-kinds .result
+
+  filled : Filled (claim start) (length (claim start .nodes)) patterns
+  filled = rw (shape start .nodes-listed) at (z .before .before .before .before .before .before .before .before .before .prepare .ensures .0)
+
+  ordered : Order (claim start) order rows
+  ordered = z .before .before .before .before .arrange .ensures .0 .0
+
+  final : 2 ^ start .args .shape .sets ≡ regions
+  final = ap (λ n. 2 ^ n) (shape start .sets-are) ∙ sym (z .fill-kinds .ensures .0)
+
+  small : regions ≤ 64
+  small = omega (arith, few start, z .fill-kinds .ensures .0)
+
+slice-aggregate-prepare : tie.Need-slice-aggregate-prepare
+slice-aggregate-prepare c = search needs
+
+prepare-requires : tie.Need-prepare-requires
+prepare-requires c κs = (granted (c .before) .checked, shape (c .before) .few-nodes)
+
+slice-aggregate-arrange : tie.Need-slice-aggregate-arrange
+slice-aggregate-arrange c = search needs
+
+slice-aggregate-arrange-2 : tie.Need-slice-aggregate-arrange-2
+slice-aggregate-arrange-2 c = search needs
+
+slice-aggregate-arrange-3 : tie.Need-slice-aggregate-arrange-3
+slice-aggregate-arrange-3 c = search needs
+
+arrange-requires : tie.Need-arrange-requires
+arrange-requires c κs =
+    let s = c .before .before .before .before .before .before in
+    (granted s .checked, (c .before .before .before .before .prepare .ensures .0, (shape s .few-nodes, omega (arith, few s, ap (λ n. 2 ^ n) (shape s .sets-are)))))
+
+slice-aggregate-fill-kinds : tie.Need-slice-aggregate-fill-kinds
+slice-aggregate-fill-kinds c = search needs
+
+fill-kinds-requires : tie.Need-fill-kinds-requires
+fill-kinds-requires c κs =
+    let s = c .before .before .before .before .before .before .before .before .before .before in
+    (granted s .checked, (granted s .sets, omega (arith, few s, ap (λ n. 2 ^ n) (set-count s))))
+
+array-write-counts : tie.Need-array-write-counts
+array-write-counts c = search needs
+
+slice-aggregate-splits : tie.Need-slice-aggregate-splits
+slice-aggregate-splits c = search needs
+
+slice-aggregate-splits-2 : tie.Need-slice-aggregate-splits-2
+slice-aggregate-splits-2 c = search needs
+
+slice-aggregate-splits-3 : tie.Need-slice-aggregate-splits-3
+slice-aggregate-splits-3 c = search needs
+
+slice-aggregate-splits-4 : tie.Need-slice-aggregate-splits-4
+slice-aggregate-splits-4 c = search needs
+
+slice-aggregate-splits-5 : tie.Need-slice-aggregate-splits-5
+slice-aggregate-splits-5 c = search needs
+
+slice-aggregate-splits-6 : tie.Need-slice-aggregate-splits-6
+slice-aggregate-splits-6 c = search needs
+
+splits-requires : tie.Need-splits-requires
+unfolding over
+splits-requires c κs =
+    let z = c .before .before .before .before .before .before .before in
+    let s = start z in
+    let arranged = z .before .before .before .before .arrange in (
+      record {
+        ready = ready-claim s;
+        filled = filled z;
+        ordered = ordered z;
+        roomy = omega (arith, shape s .few-nodes, shape s .nodes-listed);
+        small = granted s .small;
+      },
+      (
+        (subst (Has (order z) (rows z)) (sym (shape s .root-is)) (arranged .ensures .0 .1), shape s .root-is),
+        (
+          record {
+            final = z .fill-kinds .ensures .0;
+            roomy = omega (arith, small z);
+            long = (omega (arith, small z, z .fill-kinds .kept .1 .1 .0), omega (arith, small z, arranged .kept .1 .1 .1 .1 .0));
+            quantified = z .fill-kinds .ensures .1;
+            scheduled = subst (λ m. Scheduled (patterns z) m (order z) (rows z) (upto z)) (final z) (arranged .ensures .1);
+          },
+          (
+            (omega arith, omega (arith, z .fill-kinds .ensures .0, pow-pos (sets (claim s .quantifiers))), add-zero (s .args .size)),
+            ((zero-le, known-none (claim s) (s .args .size) (order z) 0 _ _), s .pre .1),
+          ),
+        ),
+      ),
+    )
+
+returns : tie.Need-returns
+unfolding ruling
+returns c =
+    let z = c .before .before .before .before .before .before .before .before .before .before in
+    c .before .before .splits .ensures .0 ∙ ap (λ n. reply (rule (planOf (claim (start z))) (n - 1) 1 (0 ∷ start z .args .size ∷ [])) (start z .args .a)) (z .fill-kinds .ensures .0)
+
+pub rule-on-spec : {M : Type 1} → statement M
+rule-on-spec =
+    tie.close
+    (tie.spec
+    slice-aggregate-prepare
+    prepare-requires
+    slice-aggregate-arrange
+    slice-aggregate-arrange-2
+    slice-aggregate-arrange-3
+    arrange-requires
+    slice-aggregate-fill-kinds
+    fill-kinds-requires
+    array-write-counts
+    slice-aggregate-splits
+    slice-aggregate-splits-2
+    slice-aggregate-splits-3
+    slice-aggregate-splits-4
+    slice-aggregate-splits-5
+    slice-aggregate-splits-6
+    splits-requires
+    returns)

@@ -1,0 +1,54 @@
+-- What stands while the search goes from split to split: the counts of the regions in a lent array, by their heap numbers, and what is
+-- filled before the first split. Assumes nothing.
+use mathlib.Core.Path.{_≡_}
+use mathlib.Core.Bool.{Bool, true}
+use mathlib.Core.List.{List}
+use Prim.Native.Nat.{ℕ, _+_, _^_, _≤_, _<_}
+use lib.Dec.{eqb}
+use lib.IntN.{ℤ}
+use lib.ListN.{length, getD, take, drop}
+use Rattle.checker.specs.Claim.{Quantifier, Claim}
+use Rattle.checker.specs.Words.{claimOf}
+use Rattle.checker.specs.Sorts.{sets}
+use Rattle.region.specs.Regions.{over}
+use Rattle.matrix.specs.Entry.{Filled}
+use Rattle.matrix.specs.Order.{Order}
+use Rattle.matrix.specs.Known.{Ready, Scheduled}
+use Rattle.decider.specs.Plan.{someAt}
+use Rattle.decider.specs.Decision.{maxSize}
+
+-- ---- counts
+
+-- The regions h, .., 2 h - 1 have so many ports together.
+abbrev pub Total : List ℕ → ℕ → ℕ → Type 0
+Total counts h size = over (λ r. true) (drop h (take (h + h) counts)) ≡ size
+
+-- The counts of the final regions that stand when split h is next.
+abbrev pub finals : ℕ → ℕ → List ℕ → List ℕ
+finals regions h counts = drop regions (take (h + h) counts)
+
+-- ---- what is filled before
+
+-- The kind of split h's quantifier is an exists.
+abbrev pub existsAt : List ℕ → ℕ → Bool
+existsAt kinds h = eqb (getD kinds h 0) 3
+
+-- For each split below `end` the table has the kind of its quantifier.
+abbrev pub Kinds : List ℕ → List Quantifier → ℕ → Type 0
+Kinds kinds qs end = (h : ℕ) → 0 < h → h < end → existsAt kinds h ≡ someAt qs 1 h
+
+-- The claim can be worked out at this size: the patterns and an order of `rows` nodes stand, and there is room for the values.
+pub record Prepared (ws : List ℤ) (patterns order : List ℕ) (room size rows : ℕ) : Type 0 where
+  pub ready : Ready ws size
+  pub filled : Filled (claimOf ws) (length (claimOf ws .nodes)) patterns
+  pub ordered : Order (claimOf ws) order rows
+  pub roomy : length (claimOf ws .nodes) ≤ room
+  pub small : size ≤ maxSize
+
+-- The splits have their kinds, the number of nodes that the first final regions settle is known, and there is room for all counts.
+pub record Guided (c : Claim) (kinds upto patterns order : List ℕ) (room rows regions : ℕ) : Type 0 where
+  pub final : regions ≡ 2 ^ sets (c .quantifiers)
+  pub roomy : regions + regions ≤ room
+  pub long : (regions ≤ length kinds) × (regions ≤ length upto)
+  pub quantified : Kinds kinds (c .quantifiers) regions
+  pub scheduled : Scheduled patterns regions order rows upto
