@@ -3,10 +3,11 @@
 use mathlib.Core.Path.{_≡_, refl}
 use mathlib.Core.List.{[], _∷_, _++_}
 use Prim.Native.Nat.{ℕ, zero, suc, _+_, _*_, _%_, _/_, _<_, _≤_, _^_}
-use native.Mathlib.Nat.{pow-succ'}
+use native.Mathlib.Nat.{pow-succ', lt-trans}
 use native.Mathlib.Decide.{decLt}
 use native.Mathlib.Omega.{arith}
 use borrow.Author.Tests.{lt-ltb, le-ltb}
+use lib.Dec.{lit<}
 use lib.ListN.{length, length-append}
 use Rattle.decimal.specs.Printing.{decimalOf, decimal}
 
@@ -38,3 +39,7 @@ decimal-length (suc k) n h = go (decLt n 10) (decimal-length k (n / 10))
     go (no g) f =
         let e : n < 10 * 10 ^ suc k = rw (pow-succ' 10 (suc k)) at h in
         rw (decimal-step n (omega arith), length-append) (omega (arith, f (omega arith)))
+
+-- a 64-bit number has at most twenty digits
+pub decimal-short : (n : ℕ) → n < 2 ^ 64 → length (decimal n) ≤ 20
+decimal-short n h = decimal-length 19 n (lt-trans h (lit< tt))

@@ -44,6 +44,7 @@ module _ (text : List ℕ) (out₀ out : List ℤ) (count at : ℕ) (l : Left te
 
   read-off : (t : Bool) (answer : Scanned) → readText (length out₀ - count) (drop at text) ≡ record { words = []; all = t }
       → answer ≡ cond t (Words count) NoWords → Read text out₀ out answer
+  unfolding scannedOf onto
   read-off t answer e a =
       let n : length (take count out) ≡ count = length-take-le count out (omega (arith, l .few, l .long)) in
       record {

@@ -112,9 +112,9 @@ wordIn t = cond (isWord t) (word.Value (wordOf t)) word.NoWord
 unfoldable pub firstPiece : List ℕ → List ℕ
 firstPiece t = getD (pieces t) 0 []
 
-abbrev pub scannedOf : Reading → Scanned
+unfoldable pub scannedOf : Reading → Scanned
 scannedOf r = cond (r .all) (Words (length (r .words))) NoWords
 
 -- the words that were read, at the front of a list, and then what stood there
-abbrev pub onto : List ℤ → Reading → List ℤ
+unfoldable pub onto : List ℤ → Reading → List ℤ
 onto l r = r .words ++ drop (length (r .words)) l

@@ -1,0 +1,4 @@
+pub mod Printing
+pub mod Tables
+pub mod Answers
+pub mod Emissions

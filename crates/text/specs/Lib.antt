@@ -1,0 +1,3 @@
+-- What the programs print, as text.
+pub mod Answer
+pub mod Lines
