@@ -1,0 +1,16 @@
+//! The comparisons, group by group.
+
+pub mod bounds;
+pub mod calls;
+pub mod decisions;
+pub mod examples;
+pub mod exhaustive;
+pub mod figures;
+pub mod limits;
+pub mod ourselves;
+pub mod programs;
+pub mod properties;
+pub mod rows;
+pub mod tables;
+pub mod tally;
+pub mod truth;
