@@ -1,61 +1,67 @@
--- What the checker accepts: exactly the words of well-sorted claims within the limits. Assumes nothing.
-use mathlib.Core.Path.{_≡_, refl, sym, _∙_, ap, ap₂}
+-- What the checker accepts: exactly the words of well-sorted claims within the limits of the dialect, of kinds that it takes. Assumes nothing.
+use mathlib.Core.Path.{_≡_, refl, sym, _∙_, ap}
 use mathlib.Core.Logic.{_↔_}
 use mathlib.Core.Bool.{Bool, true, false, _&&_}
 use mathlib.Core.List.{List, [], _∷_, _++_, map}
-use Prim.Native.Nat.{ℕ, zero, suc, _+_, _*_, _-_, _≤_, _<_}
+use Prim.Native.Nat.{ℕ, zero, suc, _+_, _*_, _-_, _<_}
 use native.Mathlib.Omega.{arith}
 use borrow.Author.Tests.{lt-ltb}
 use lib.IntN.{ℤ, pos}
-use lib.ListN.{length, getD, take, length-map, List·getD-append, List·getD-map}
+use lib.ListN.{length, getD, take, length-map, List·getD-append}
 use lib.Seq.{getD-append-add, getD-take, length-take-le}
+use Rattle.checker.specs.declared.Dialect.{Dialect}
+use Rattle.checker.specs.declared.Dialect.the-variants.{SetClaims}
 use Rattle.checker.specs.declared.Shape.{Shape}
 use Rattle.checker.specs.declared.Sort.the-variants.{AFormula}
 use Rattle.checker.specs.declared.Checked.the-variants.{Accepted}
 use Rattle.checker.specs.Claim.{Node, unknown, Quantifier, intQ, setQ, countQ, Claim}
-use Rattle.checker.specs.Kinds.{number, rowOf, sortOf, rangeOf, isFormula, overSets}
-use Rattle.checker.specs.Words.{word, wordAt, rootIn, nodesIn, quantifiersIn, claimOf, Fields, fieldsOf, nodeWords, nodesWords, quantifierWord, trailer, wordsOf}
+use Rattle.checker.specs.Kinds.{number, sortOf, rangeOf, overSets}
+use Rattle.checker.specs.Words.{word, wordAt, nodesIn, quantifiersIn, claimOf, fieldsOf, nodeWords, nodesWords, quantifierWord, trailer, wordsOf}
 use Rattle.checker.specs.Sorts.{sort, isSetQ, WellSorted, sets}
 use Rattle.checker.specs.Search.{count}
 use Rattle.checker.specs.Table.{fieldGood, nodeGood, childSort, rootGood, isKnown, bindsSet}
-use Rattle.checker.specs.Check.{checkOf, tableAt, kindIn, quantifierKind, shapeOf}
-use Rattle.checker.specs.Accepted.{Limited, claimShape}
+use Rattle.checker.specs.Dialect.{takesKind, takesQuantifier}
+use Rattle.checker.specs.Check.{checkAs, checkOf, tableAt, kindIn, quantifierKind, shapeOf}
+use Rattle.checker.specs.Accepted.{LimitedAs, Limited, Taken, claimShape}
 use Rattle.checker.proofs.Tab.{tab-length}
-use Rattle.checker.proofs.Words.{nodes-words-length, words-length, root-word, nodes-word, quantifiers-word, mark-word, claim-words}
-use Rattle.checker.proofs.Passed.{Good, accepted-good, good-accepted}
-use Rattle.checker.proofs.Rowwise.{range, over-range, Serves, fits-served}
-use Rattle.checker.proofs.Reading.{claim-sorted, same-words, sets-counted}
+use Rattle.checker.proofs.Limits.{nodes-most, quantifiers-most, all-of, all-at}
+use Rattle.checker.proofs.Words.{nodes-words-length, words-length, root-word, nodes-word, quantifiers-word, mark-word}
+use Rattle.checker.proofs.Passed.{accepted-good, good-accepted}
+use Rattle.checker.proofs.Rowwise.{range, over-range, fits-served}
+use Rattle.checker.proofs.Reading.{claim-sorted, same-words, sets-counted, kinds-taken, quantifiers-taken}
 use Rattle.checker.proofs.Fitting.{sort-kind, fits-at, counted}
 
 -- ---- accepted words
 
 -- What is known of accepted words: the claim that they are read as.
-pub record Claimed (ws : List ℤ) (s : Shape) : Type 0 where
+pub record ClaimedAs (d : Dialect) (ws : List ℤ) (s : Shape) : Type 0 where
   pub words : wordsOf (claimOf ws) ≡ ws
   pub sorted : WellSorted (claimOf ws)
-  pub limited : Limited (claimOf ws)
+  pub limited : LimitedAs d (claimOf ws)
+  pub taken : Taken d (claimOf ws)
   pub shape : s ≡ claimShape (claimOf ws)
 
 shape-is : {s t : Shape} → s .nodes ≡ t .nodes → s .quantifiers ≡ t .quantifiers → s .sets ≡ t .sets → s .root ≡ t .root → s ≡ t
 shape-is n q m r = λ i. record { nodes = n i; quantifiers = q i; sets = m i; root = r i }
 
-pub accepted-claim : (ws : List ℤ) (s : Shape) → checkOf ws ≡ Accepted s → Claimed ws s
+pub accepted-claim-as : (d : Dialect) (ws : List ℤ) (s : Shape) → checkAs d ws ≡ Accepted s → ClaimedAs d ws s
 unfolding shapeOf tableAt claimOf
-accepted-claim ws s e =
-    let a = accepted-good ws s e in
+accepted-claim-as d ws s e =
+    let a = accepted-good d ws s e in
     let g = a .0 in
     let n : length (claimOf ws .nodes) ≡ nodesIn ws = tab-length _ _ in
     let q : length (claimOf ws .quantifiers) ≡ quantifiersIn ws = tab-length _ _ in
     record {
-      words = same-words ws g;
-      sorted = claim-sorted ws g;
+      words = same-words d ws g;
+      sorted = claim-sorted d ws g;
       limited = record {
         some-nodes = omega (arith, g .some-nodes);
         few-nodes = omega (arith, g .few-nodes);
         few-quantifiers = omega (arith, g .few-quantifiers);
-        few-sets = omega (arith, g .table .few-sets, sets-counted ws g);
+        few-sets = omega (arith, g .table .few-sets, sets-counted d ws g);
       };
-      shape = a .1 ∙ shape-is (sym n) (sym q) (sets-counted ws g) refl;
+      taken = record { nodes = kinds-taken d ws g; quantifiers = quantifiers-taken d ws g };
+      shape = a .1 ∙ shape-is (sym n) (sym q) (sets-counted d ws g) refl;
     }
 
 -- ---- the words of a claim
@@ -72,7 +78,7 @@ three-at (n ∷ ns) rest (suc i) h j l =
     let e : 3 * suc i + j ≡ suc (suc (suc (3 * i + j))) = omega arith in
     rw e (three-at ns rest i (omega arith) j l)
 
-module _ (c : Claim) where
+module _ (d : Dialect) (c : Claim) where
   abbrev ws : List ℤ
   ws = wordsOf c
 
@@ -137,13 +143,13 @@ module _ (c : Claim) where
       counted (bindsSet (tableAt ws n q)) (c .quantifiers)
       (λ i h. ap overSets (range-at i h) ∙ over-range (isSetQ (getD (c .quantifiers) i (intQ true))))
 
-  module _ (limited : Limited c) (sorted : WellSorted c) where
+  module _ (limited : LimitedAs d c) (taken : Taken d c) (sorted : WellSorted c) where
     node-passes : (i : ℕ) → i < n → nodeGood (tableAt ws n q) i ≡ true
     unfolding nodeGood fieldGood tableAt
     node-passes i h =
         let l : length (take i (c .nodes)) ≡ i = length-take-le i (c .nodes) (omega arith) in
         let f = fits-served (c .quantifiers) (take i (c .nodes)) (kindIn ws) (quantifierKind ws n)
-        (omega (arith, limited .few-nodes)) (omega (arith, limited .few-quantifiers))
+        (omega (arith, limited .few-nodes, nodes-most d)) (omega (arith, limited .few-quantifiers, quantifiers-most d))
         (λ v k. let m : v < i = omega arith in
         ap sort (getD-take i (c .nodes) v unknown m) ∙ sort-kind (at v) ∙ ap sortOf (sym (kind-at v (omega arith)))) range-at
         (at i) (fits-at (c .quantifiers) (c .nodes) (sorted .0) i h) in
@@ -152,6 +158,15 @@ module _ (c : Claim) where
         passes : {a b : Bool} → a ≡ true → b ≡ true → (a && b) ≡ true
         passes e f = rw (e, f)
 
+    kind-passes : (i : ℕ) → i < n → takesKind d (kindIn ws i) ≡ true
+    kind-passes i h = ap (takesKind d) (kind-at i h) ∙ all-at (λ x. takesKind d (fieldsOf x .kind)) (c .nodes) (taken .nodes) unknown i h
+
+    quantifier-passes : (i : ℕ) → i < q → takesQuantifier d (quantifierKind ws n i) ≡ true
+    unfolding wordAt
+    quantifier-passes i h =
+        ap (λ z. takesQuantifier d (number z)) (quantifier-at i h)
+        ∙ all-at (λ x. takesQuantifier d (number (quantifierWord x))) (c .quantifiers) (taken .quantifiers) (intQ true) i h
+
     root-passes : rootGood (tableAt ws n q) ≡ true
     unfolding rootGood childSort tableAt
     root-passes =
@@ -159,11 +174,11 @@ module _ (c : Claim) where
         let s : sortOf (kindIn ws (c .root)) ≡ AFormula = ap sortOf (kind-at (c .root) h) ∙ sym (sort-kind (at (c .root))) ∙ sorted .1 .1 in
         rw (root-word c, lt-ltb (c .root) n h, s)
 
-    -- The words of a well-sorted claim within the limits are accepted.
-    pub claim-accepted : checkOf ws ≡ Accepted (claimShape c)
+    -- The words of a well-sorted claim within the limits, of kinds that are taken, are accepted.
+    pub claim-accepted-as : checkAs d ws ≡ Accepted (claimShape c)
     unfolding shapeOf tableAt
-    claim-accepted =
-        good-accepted ws n q
+    claim-accepted-as =
+        good-accepted d ws n q
         (record {
           marked = mark-word c;
           nodes-are = sym (nodes-word c);
@@ -174,12 +189,36 @@ module _ (c : Claim) where
           sized = words-length c;
           table = record {
             few-sets = omega (arith, sets-in, limited .few-sets);
+            quantifier-taken = quantifier-passes;
             quantifier-known = λ i h. ap isKnown (range-at i h) ∙ known-range (isSetQ (getD (c .quantifiers) i (intQ true)));
+            kind-taken = kind-passes;
             node-good = node-passes;
             root-good = root-passes;
           };
         })
         ∙ ap Accepted (shape-is refl refl sets-in (root-word c))
+
+-- Words are accepted exactly if they are those of such a claim.
+pub accepted-exactly-as : (d : Dialect) (ws : List ℤ)
+    → ((s : Shape) × (checkAs d ws ≡ Accepted s)) ↔ ((c : Claim) × (wordsOf c ≡ ws) × LimitedAs d c × Taken d c × WellSorted c)
+accepted-exactly-as d ws = (
+  λ (s, e). let a = accepted-claim-as d ws s e in (claimOf ws, a .words, a .limited, a .taken, a .sorted),
+  λ (c, e, l, t, s). (claimShape c, rw (← e) (claim-accepted-as d c l t s)),
+)
+
+-- ---- claims over sets: every kind is taken
+
+abbrev pub Claimed : List ℤ → Shape → Type 0
+Claimed ws s = ClaimedAs SetClaims ws s
+
+pub accepted-claim : (ws : List ℤ) (s : Shape) → checkOf ws ≡ Accepted s → Claimed ws s
+unfolding checkOf
+accepted-claim ws s e = accepted-claim-as SetClaims ws s e
+
+pub claim-accepted : (c : Claim) → Limited c → WellSorted c → checkOf (wordsOf c) ≡ Accepted (claimShape c)
+unfolding checkOf
+claim-accepted c l s =
+    claim-accepted-as SetClaims c l (record { nodes = all-of _ (λ n. refl) (c .nodes); quantifiers = all-of _ (λ q. refl) (c .quantifiers) }) s
 
 -- Words are accepted exactly if they are those of a well-sorted claim within the limits.
 pub accepted-exactly : (ws : List ℤ) → ((s : Shape) × (checkOf ws ≡ Accepted s)) ↔ ((c : Claim) × (wordsOf c ≡ ws) × Limited c × WellSorted c)

@@ -8,7 +8,9 @@ pub mod Words
 pub mod Rowwise
 pub mod Passed
 pub mod Tab
+pub mod Limits
 pub mod Fitting
 pub mod Reading
 pub mod Accepted
+pub mod Emitted
 pub mod Examples

@@ -1,5 +1,5 @@
 -- A table is accepted exactly where every test fails, and each failed test is a fact. Assumes nothing.
-use mathlib.Core.Path.{_≡_, refl, sym, _∙_, ap, subst}
+use mathlib.Core.Path.{_≡_, refl, sym, _∙_, ap}
 use mathlib.Core.Bool.{Bool, true, false, not, cond, _&&_, true≢false}
 use mathlib.Core.List.{List, [], _∷_}
 use Prim.Native.Nat.{ℕ, zero, suc, _+_, _*_, _-_, _≤_, _<_}
@@ -8,34 +8,38 @@ use borrow.Author.Tests.{ltb-false, leb-true, eqb-true, eqb-false, not-false, ne
 use lib.Dec.{eqb}
 use lib.IntN.{ℤ}
 use lib.ListN.{length}
+use Rattle.checker.specs.declared.Dialect.{Dialect}
 use Rattle.checker.specs.declared.Shape.{Shape}
 use Rattle.checker.specs.declared.Checked.{Checked}
 use Rattle.checker.specs.declared.Checked.the-variants.{Accepted, Refused}
 use Rattle.checker.specs.Kinds.{rangeOf}
 use Rattle.checker.specs.Words.{wordAt, rootIn, nodesIn, quantifiersIn, mark}
 use Rattle.checker.specs.Search.{first, count}
-use Rattle.checker.specs.Table.{Table, nodeGood, badNode, rootGood, badQuantifier, isKnown, bindsSet, oneTooMany}
-use Rattle.checker.specs.Check.{Test, verdict, maxSets, maxNodes, maxQuantifiers, quantifierTests, nodeTests, partsOf, shapeTests, checkOf, restOf, tableAt, shapeOf}
+use Rattle.checker.specs.Dialect.{mostNodes, mostQuantifiers, mostSets, takesKind, takesQuantifier}
+use Rattle.checker.specs.Table.{Table, nodeGood, nodeTaken, badNode, rootGood, quantifierTaken, badQuantifier, isKnown, bindsSet, oneTooMany}
+use Rattle.checker.specs.Check.{Test, verdict, quantifierTests, nodeTests, partsOf, shapeTests, checkAs, restOf, tableAt, shapeOf}
 use Rattle.checker.proofs.Search.{first-none, first-all, first-le, count-mono, count-yes}
 use Rattle.checker.proofs.Sorts.{inside}
-use Rattle.checker.proofs.Verdict.{plain, shaped, all-pass}
+use Rattle.checker.proofs.Verdict.{plainAs, shaped, all-pass}
 
 -- A table that obeys the rules, and words that hold one.
-pub record GoodTable (t : Table) : Type 0 where
-  pub few-sets : count (bindsSet t) (t .quantifiers) ≤ maxSets
+pub record GoodTable (d : Dialect) (t : Table) : Type 0 where
+  pub few-sets : count (bindsSet t) (t .quantifiers) ≤ mostSets d
+  pub quantifier-taken : (i : ℕ) → i < t .quantifiers → takesQuantifier d (t .quantifier i) ≡ true
   pub quantifier-known : (i : ℕ) → i < t .quantifiers → isKnown (rangeOf (t .quantifier i)) ≡ true
+  pub kind-taken : (i : ℕ) → i < t .nodes → takesKind d (t .kind i) ≡ true
   pub node-good : (i : ℕ) → i < t .nodes → nodeGood t i ≡ true
   pub root-good : rootGood t ≡ true
 
-pub record Good (ws : List ℤ) (n q : ℕ) : Type 0 where
+pub record Good (d : Dialect) (ws : List ℤ) (n q : ℕ) : Type 0 where
   pub marked : wordAt ws (length ws - 1) ≡ mark
   pub nodes-are : n ≡ nodesIn ws
   pub quantifiers-are : q ≡ quantifiersIn ws
   pub some-nodes : 1 ≤ n
-  pub few-nodes : n ≤ maxNodes
-  pub few-quantifiers : q ≤ maxQuantifiers
+  pub few-nodes : n ≤ mostNodes d
+  pub few-quantifiers : q ≤ mostQuantifiers d
   pub sized : length ws ≡ 3 * n + q + 4
-  pub table : GoodTable (tableAt ws n q)
+  pub table : GoodTable d (tableAt ws n q)
 
 -- ---- accepted, so good
 
@@ -70,43 +74,49 @@ few limit t (suc n) h = go (bindsSet t n) refl (few limit t n (λ i l. h i (omeg
         omega arith
     go false e l = omega arith
 
-good-table : (t : Table) (base width root : ℕ) → Failed (quantifierTests t base) → Failed (nodeTests t width root) → GoodTable t
-unfolding quantifierTests nodeTests badQuantifier badNode
-good-table t base width root f g =
+good-table : (d : Dialect) (t : Table) (base width root : ℕ) → Failed (quantifierTests d t base) → Failed (nodeTests d t width root) → GoodTable d t
+unfolding quantifierTests nodeTests badQuantifier quantifierTaken badNode nodeTaken
+good-table d t base width root f g =
+    let quantifier : (i : ℕ) → i < t .quantifiers → (takesQuantifier d (t .quantifier i) ≡ true) × (isKnown (rangeOf (t .quantifier i)) ≡ true) =
+    λ i h. both _ _ (not-false _ (first-none (badQuantifier d t) (t .quantifiers) (ltb-false _ _ (f .0)) i h)) in
+    let node : (i : ℕ) → i < t .nodes → (takesKind d (t .kind i) ≡ true) × (nodeGood t i ≡ true) =
+    λ i h. both _ _ (not-false _ (first-none (badNode d t) (t .nodes) (ltb-false _ _ (g .0)) i h)) in
     record {
-      few-sets = few maxSets t (t .quantifiers) (first-none (oneTooMany maxSets t) (t .quantifiers) (ltb-false _ _ (f .1 .0)));
-      quantifier-known = λ i h. not-false _ (first-none (badQuantifier t) (t .quantifiers) (ltb-false _ _ (f .0)) i h);
-      node-good = λ i h. not-false _ (first-none (badNode t) (t .nodes) (ltb-false _ _ (g .0)) i h);
+      few-sets = few (mostSets d) t (t .quantifiers) (first-none (oneTooMany (mostSets d) t) (t .quantifiers) (ltb-false _ _ (f .1 .0)));
+      quantifier-taken = λ i h. quantifier i h .0;
+      quantifier-known = λ i h. quantifier i h .1;
+      kind-taken = λ i h. node i h .0;
+      node-good = λ i h. node i h .1;
       root-good = not-false _ (g .1 .0);
     }
 
-made-good : (ws : List ℤ) (n q : ℕ) → n ≡ nodesIn ws → q ≡ quantifiersIn ws
-    → Failed (shapeTests (length ws) (eqb (wordAt ws (length ws - 1)) mark) n q 3) → GoodTable (tableAt ws n q) → Good ws n q
+made-good : (d : Dialect) (ws : List ℤ) (n q : ℕ) → n ≡ nodesIn ws → q ≡ quantifiersIn ws
+    → Failed (shapeTests d (length ws) (eqb (wordAt ws (length ws - 1)) mark) n q 3) → GoodTable d (tableAt ws n q) → Good d ws n q
 unfolding shapeTests
-made-good ws n q en eq f g =
+made-good d ws n q en eq f g =
     let b = both _ _ (not-false _ (f .1 .1 .0)) in
     record {
       marked = eqb-true _ mark (not-false _ (f .1 .0));
       nodes-are = en;
       quantifiers-are = eq;
       some-nodes = leb-true 1 n (b .0);
-      few-nodes = leb-true n maxNodes (b .1);
-      few-quantifiers = ltb-false maxQuantifiers q (f .1 .1 .1 .0);
+      few-nodes = leb-true n (mostNodes d) (b .1);
+      few-quantifiers = ltb-false (mostQuantifiers d) q (f .1 .1 .1 .0);
       sized = eqb-true _ _ (not-false _ (f .1 .1 .1 .1 .0));
       table = g;
     }
 
-pub accepted-good : (ws : List ℤ) (s : Shape) → checkOf ws ≡ Accepted s
-    → Good ws (nodesIn ws) (quantifiersIn ws) × (s ≡ shapeOf (tableAt ws (nodesIn ws) (quantifiersIn ws)))
-unfolding checkOf restOf partsOf verdict
-accepted-good ws s e =
+pub accepted-good : (d : Dialect) (ws : List ℤ) (s : Shape) → checkAs d ws ≡ Accepted s
+    → Good d ws (nodesIn ws) (quantifiersIn ws) × (s ≡ shapeOf (tableAt ws (nodesIn ws) (quantifiersIn ws)))
+unfolding checkAs restOf partsOf verdict
+accepted-good d ws s e =
     let n : ℕ = nodesIn ws in
     let q : ℕ = quantifiersIn ws in
     let t : Table = tableAt ws n q in
-    let f = passed (shapeTests (length ws) (eqb (wordAt ws (length ws - 1)) mark) n q 3) _ s e in
-    let g = passed (quantifierTests t (3 * n)) _ s (f .1) in
-    let h = passed (nodeTests t 3 (length ws - 4)) (Accepted (shapeOf t)) s (g .1) in
-    (made-good ws n q refl refl (f .0) (good-table t (3 * n) 3 (length ws - 4) (g .0) (h .0)), cc (h .1))
+    let f = passed (shapeTests d (length ws) (eqb (wordAt ws (length ws - 1)) mark) n q 3) _ s e in
+    let g = passed (quantifierTests d t (3 * n)) _ s (f .1) in
+    let h = passed (nodeTests d t 3 (length ws - 4)) (Accepted (shapeOf t)) s (g .1) in
+    (made-good d ws n q refl refl (f .0) (good-table d t (3 * n) 3 (length ws - 4) (g .0) (h .0)), cc (h .1))
 
 -- ---- good, so accepted
 
@@ -122,16 +132,20 @@ under-limit limit t n j l h = go (bindsSet t j) refl
         ne-eqb _ limit (λ f. omega arith)
     go false e = refl
 
-pub good-accepted : (ws : List ℤ) (n q : ℕ) → Good ws n q → checkOf ws ≡ Accepted (shapeOf (tableAt ws n q))
-unfolding tableAt badQuantifier badNode rootGood verdict checkOf restOf shapeOf
-good-accepted ws n q g =
+pub good-accepted : (d : Dialect) (ws : List ℤ) (n q : ℕ) → Good d ws n q → checkAs d ws ≡ Accepted (shapeOf (tableAt ws n q))
+unfolding tableAt badQuantifier quantifierTaken badNode nodeTaken rootGood verdict checkAs restOf shapeOf
+good-accepted d ws n q g =
     let t : Table = tableAt ws n q in
-    let n5 : q ≤ first (oneTooMany maxSets t) q = first-all _ q (λ j h. under-limit maxSets t q j (g .table .few-sets) h) in
-    let o : q ≡ first (oneTooMany maxSets t) q = omega (arith, first-le (oneTooMany maxSets t) q) in
+    let n5 : q ≤ first (oneTooMany (mostSets d) t) q = first-all _ q (λ j h. under-limit (mostSets d) t q j (g .table .few-sets) h) in
+    let o : q ≡ first (oneTooMany (mostSets d) t) q = omega (arith, first-le (oneTooMany (mostSets d) t) q) in
     sym
-    (shaped (plain ws) (omega (arith, g .sized)) _ refl (g .marked) n (g .nodes-are) (inside 1 maxNodes n (g .some-nodes) (g .few-nodes)) q
+    (shaped (plainAs d ws) (omega (arith, g .sized)) _ refl (g .marked) n (g .nodes-are) (inside 1 (mostNodes d) n (g .some-nodes) (g .few-nodes)) q
     (g .quantifiers-are) (g .few-quantifiers) (g .sized))
     ∙ sym
-    (all-pass t (3 * n) 3 (length ws - 4) [] _ refl (first-all (badQuantifier t) q (λ j h. ap not (g .table .quantifier-known j h)))
-    _ refl n5 (λ ok. refl) _ refl (first-all (badNode t) n (λ j h. ap not (g .table .node-good j h)))
+    (all-pass d t (3 * n) 3 (length ws - 4) []
+    _ refl (first-all (badQuantifier d t) q (λ j h. passes (g .table .quantifier-taken j h) (g .table .quantifier-known j h)))
+    _ refl n5 (λ ok. refl) _ refl (first-all (badNode d t) n (λ j h. passes (g .table .kind-taken j h) (g .table .node-good j h)))
     (g .table .root-good) (count (bindsSet t) q) (rootIn ws) (ap (count (bindsSet t)) o) refl)
+  where
+    passes : {a b : Bool} → a ≡ true → b ≡ true → not (a && b) ≡ false
+    passes e f = rw (e, f)

@@ -1,4 +1,4 @@
--- Good words read as a well-sorted claim whose words they are. Assumes nothing.
+-- Good words read as a well-sorted claim whose words they are, and whose kinds are those that the dialect takes. Assumes nothing.
 use mathlib.Core.Path.{_≡_, refl, sym, _∙_, ap, ap₂, subst}
 use mathlib.Core.Bool.{Bool, true, false, _&&_, false≢true}
 use mathlib.Core.List.{List, [], _∷_, _++_, map}
@@ -9,16 +9,20 @@ use native.Mathlib.Omega.{arith}
 use lib.IntN.{ℤ, pos, negsuc}
 use lib.ListN.{length, getD, drop, drop-of-length-le}
 use lib.Seq.{drop-cons}
+use Rattle.checker.specs.declared.Dialect.{Dialect}
 use Rattle.checker.specs.declared.Sort.the-variants.{AFormula, NoSort}
 use Rattle.checker.specs.declared.Need.{Need}
 use Rattle.checker.specs.Claim.{Node, unknown, Quantifier, intQ}
 use Rattle.checker.specs.Kinds.{noNumber, number, rowOf, sortOf, rangeOf, isFormula, overSets, quantifierOf}
-use Rattle.checker.specs.Words.{word, wordAt, tab, rootIn, nodesIn, quantifiersIn, nodeAt, quantifierAt, claimOf, nodeWords, nodesWords, quantifierWord, mark, trailer, wordsOf}
+use Rattle.checker.specs.Words.{word, wordAt, tab, rootIn, nodesIn, quantifiersIn, nodeAt, quantifierAt, claimOf, fieldsOf, nodeWords, nodesWords, quantifierWord, mark, wordsOf}
 use Rattle.checker.specs.Sorts.{sort, isSetQ, Fits, AllFit, WellSorted, sets}
 use Rattle.checker.specs.Search.{count}
+use Rattle.checker.specs.Dialect.{takesKind, takesQuantifier}
 use Rattle.checker.specs.Table.{Table, fieldGood, nodeGood, childSort, rootGood, isKnown, bindsSet}
 use Rattle.checker.specs.Check.{tableAt, kindIn, quantifierKind}
+use Rattle.checker.specs.Accepted.{KindsTaken, QuantifiersTaken}
 use Rattle.checker.proofs.Tab.{tab-length, tab-at, tab-snoc}
+use Rattle.checker.proofs.Limits.{nodes-most, quantifiers-most, all-tab}
 use Rattle.checker.proofs.Passed.{Good}
 use Rattle.checker.proofs.Fitting.{counted}
 use Rattle.checker.proofs.Rowwise.{range, over-range, formula-is, looked, Serves, NodeIs, node-is}
@@ -58,7 +62,7 @@ both : (a b : Bool) → (a && b) ≡ true → (a ≡ true) × (b ≡ true)
 both true b e = (refl, e)
 both false b e = absurd (false≢true e)
 
-module _ (ws : List ℤ) (good : Good ws (nodesIn ws) (quantifiersIn ws)) where
+module _ (d : Dialect) (ws : List ℤ) (good : Good d ws (nodesIn ws) (quantifiersIn ws)) where
   abbrev n : ℕ
   n = nodesIn ws
 
@@ -70,6 +74,12 @@ module _ (ws : List ℤ) (good : Good ws (nodesIn ws) (quantifiersIn ws)) where
 
   abbrev qs : List Quantifier
   qs = tab q (quantifierAt ws n)
+
+  n-small : n < noNumber
+  n-small = omega (arith, good .few-nodes, nodes-most d)
+
+  q-small : q < noNumber
+  q-small = omega (arith, good .few-quantifiers, quantifiers-most d)
 
   known : (i : ℕ) → i < q → isKnown (rangeOf (number (word ws (3 * n + i)))) ≡ true
   unfolding tableAt wordAt
@@ -99,7 +109,7 @@ module _ (ws : List ℤ) (good : Good ws (nodesIn ws) (quantifiersIn ws)) where
       let f = both (fieldGood t i (rowOf (kindIn ws i) .a) (number (word ws (3 * i + 1)))) (fieldGood t i (rowOf (kindIn ws i) .b) (number (word ws (3 * i + 2))))
       (good .table .node-good i l) in
       node-is qs (tab i (nodeAt ws)) (kindIn ws) (quantifierKind ws n)
-      (omega (arith, good .few-nodes, tab-length i (nodeAt ws))) (omega (arith, good .few-quantifiers, tab-length q (quantifierAt ws n)))
+      (omega (arith, n-small, tab-length i (nodeAt ws))) (omega (arith, q-small, tab-length q (quantifierAt ws n)))
       (λ v h. let k : v < i = omega (arith, tab-length i (nodeAt ws)) in ap sort (tab-at i (nodeAt ws) unknown v k) ∙ sorts v k) range-at
       (word ws (3 * i)) (word ws (3 * i + 1)) (word ws (3 * i + 2)) (served i _ _ (f .0)) (served i _ _ (f .1))
 
@@ -180,11 +190,11 @@ module _ (ws : List ℤ) (good : Good ws (nodesIn ws) (quantifiersIn ws)) where
       let e₂ : length ws - 2 ≡ suc (suc k) = omega (arith, good .sized) in
       let e₃ : length ws - 1 ≡ suc (suc (suc k)) = omega (arith, good .sized) in
       drop-cons ws k (pos 0) (omega (arith, good .sized))
-      ∙ ap₂ (λ x l. x ∷ l) (ap (word ws) (sym e₀) ∙ is-number _ (rootIn ws) refl (omega (arith, good .few-nodes, root-good .0)))
+      ∙ ap₂ (λ x l. x ∷ l) (ap (word ws) (sym e₀) ∙ is-number _ (rootIn ws) refl (omega (arith, n-small, root-good .0)))
       (drop-cons ws (suc k) (pos 0) (omega (arith, good .sized))
-      ∙ ap₂ (λ x l. x ∷ l) (ap (word ws) (sym e₁) ∙ is-number _ n refl (omega (arith, good .few-nodes)))
+      ∙ ap₂ (λ x l. x ∷ l) (ap (word ws) (sym e₁) ∙ is-number _ n refl n-small)
       (drop-cons ws (suc (suc k)) (pos 0) (omega (arith, good .sized))
-      ∙ ap₂ (λ x l. x ∷ l) (ap (word ws) (sym e₂) ∙ is-number _ q refl (omega (arith, good .few-quantifiers)))
+      ∙ ap₂ (λ x l. x ∷ l) (ap (word ws) (sym e₂) ∙ is-number _ q refl q-small)
       (drop-cons ws (suc (suc (suc k))) (pos 0) (omega (arith, good .sized))
       ∙ ap₂ (λ x l. x ∷ l) (ap (word ws) (sym e₃) ∙ is-number _ mark (good .marked) (omega arith))
       (drop-of-length-le ws {i = suc (suc (suc (suc k)))} (omega (arith, good .sized))))))
@@ -209,3 +219,17 @@ module _ (ws : List ℤ) (good : Good ws (nodesIn ws) (quantifiersIn ws)) where
   sets-counted =
       ap (count (bindsSet (tableAt ws n q))) (sym (tab-length q (quantifierAt ws n)))
       ∙ counted (bindsSet (tableAt ws n q)) qs (λ i h. ap overSets (range-at i h) ∙ over-range (isSetQ (getD qs i (intQ true))))
+
+  -- ---- the kinds
+
+  pub kinds-taken : KindsTaken d (claimOf ws .nodes)
+  unfolding claimOf tableAt wordAt nodeWords number
+  kinds-taken =
+      all-tab (λ x. takesKind d (fieldsOf x .kind)) n (nodeAt ws)
+      (λ i h. ap (λ l. takesKind d (number (word l 0))) (node-good i h .words) ∙ good .table .kind-taken i h)
+
+  pub quantifiers-taken : QuantifiersTaken d (claimOf ws .quantifiers)
+  unfolding claimOf tableAt wordAt
+  quantifiers-taken =
+      all-tab (λ x. takesQuantifier d (number (quantifierWord x))) q (quantifierAt ws n)
+      (λ i h. ap (λ z. takesQuantifier d (number z)) (quantifier-back (word ws (3 * n + i)) (known i h)) ∙ good .table .quantifier-taken i h)

@@ -21,7 +21,6 @@ use Rattle.checker.specs.Kinds.{noNumber, number, Entry, sortTable, noEn
 use Rattle.checker.specs.Words.{fieldsOf, nodeWords}
 use Rattle.checker.specs.Sorts.{sort, Is, isSetQ, Binds, Fits}
 use Rattle.checker.specs.Table.{childSort, nameRange, serves}
-use Rattle.checker.specs.Check.{maxNodes, maxQuantifiers}
 
 -- ---- sorts and ranges by their tests
 

@@ -1,12 +1,34 @@
 -- Laws of the rules on nodes and quantifiers, as the code decides them. Assumes nothing.
 use mathlib.Core.Path.{_≡_, sym, _∙_, ap}
-use mathlib.Core.Bool.{Bool, true, false, not}
+use mathlib.Core.Bool.{Bool, true, false}
 use Prim.Native.Nat.{ℕ, _+_, _<_}
 use borrow.Author.Tests.{eq-eqb, ne-eqb}
+use Rattle.checker.specs.declared.Dialect.{Dialect}
 use Rattle.checker.specs.Search.{first, count}
-use Rattle.checker.specs.Kinds.{rowOf}
-use Rattle.checker.specs.Table.{Table, fieldGood, nodeGood, bindsSet, oneTooMany}
+use Rattle.checker.specs.Kinds.{rowOf, rangeOf}
+use Rattle.checker.specs.Dialect.{takesKind, takesQuantifier}
+use Rattle.checker.specs.Table.{Table, fieldGood, nodeGood, nodeTaken, isKnown, quantifierTaken, bindsSet, oneTooMany}
 use Rattle.checker.proofs.Search.{Upto, upto-more, upto-hit, count-yes, count-no}
+
+-- ---- a kind: the dialect decides, and then the rest
+
+module _ (d : Dialect) (kind : ℕ) where
+  pub quantifier-breaks : takesQuantifier d kind ≡ false → false ≡ quantifierTaken d kind
+  unfolding quantifierTaken
+  quantifier-breaks e = rw e
+
+  pub list-decides : {r : Bool} → takesQuantifier d kind ≡ true → r ≡ isKnown (rangeOf kind) → r ≡ quantifierTaken d kind
+  unfolding quantifierTaken
+  list-decides e f = rw e f
+
+module _ (d : Dialect) (t : Table) (i : ℕ) where
+  pub kind-breaks : takesKind d (t .kind i) ≡ false → false ≡ nodeTaken d t i
+  unfolding nodeTaken
+  kind-breaks e = rw e
+
+  pub row-decides : {r : Bool} → takesKind d (t .kind i) ≡ true → r ≡ nodeGood t i → r ≡ nodeTaken d t i
+  unfolding nodeTaken
+  row-decides e f = rw e f
 
 -- ---- a node: a decides, and then b
 

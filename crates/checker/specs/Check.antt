@@ -1,5 +1,5 @@
 -- What the checker answers (01, "Refusal numbers, in the order they are tested", 1 to 7): an ordered list of tests, of which the first that holds
--- decides. The tests are over a table of numbers, the words a node takes and the places where things stand, whatever the words are.
+-- decides. The tests are over a dialect, a table of numbers, the words a node takes and the places where things stand, whatever the words are.
 -- Assumes nothing.
 use mathlib.Core.Bool.{Bool, cond, not}
 use mathlib.Core.List.{List, [], _∷_}
@@ -7,6 +7,8 @@ use Prim.Native.Nat.{ℕ, _+_, _*_, _-_, _≤_}
 use lib.Dec.{ltb, eqb}
 use lib.IntN.{ℤ}
 use lib.ListN.{length}
+use Rattle.checker.specs.declared.Dialect.{Dialect}
+use Rattle.checker.specs.declared.Dialect.the-variants.{SetClaims}
 use Rattle.checker.specs.declared.Refusal.{Refusal}
 use Rattle.checker.specs.declared.Shape.{Shape}
 use Rattle.checker.specs.declared.Checked.{Checked}
@@ -14,18 +16,19 @@ use Rattle.checker.specs.declared.Checked.the-variants.{Accepted, Refuse
 use Rattle.checker.specs.Search.{first, count}
 use Rattle.checker.specs.Kinds.{within}
 use Rattle.checker.specs.Words.{wordAt, rootIn, nodesIn, quantifiersIn, mark}
+use Rattle.checker.specs.Dialect.{mostNodes, mostQuantifiers, mostSets}
 use Rattle.checker.specs.Table.{Table, badNode, rootGood, bindsSet, badQuantifier, oneTooMany}
 
--- ---- limits
+-- ---- the limits of claims over sets
 
 abbrev pub maxNodes : ℕ
-maxNodes = 1024
+maxNodes = mostNodes SetClaims
 
 abbrev pub maxQuantifiers : ℕ
-maxQuantifiers = 32
+maxQuantifiers = mostQuantifiers SetClaims
 
 abbrev pub maxSets : ℕ
-maxSets = 6
+maxSets = mostSets SetClaims
 
 -- ---- tests in order
 
@@ -45,20 +48,20 @@ verdict [] ok = ok
 verdict (t ∷ ts) ok = cond (t .holds) (Refused (t .gives)) (verdict ts ok)
 
 -- 1 to 3, of l words whose last is right where `marked`, for n nodes of `width` words each and q quantifiers
-unfoldable pub shapeTests : ℕ → Bool → ℕ → ℕ → ℕ → List Test
-shapeTests l marked n q width =
+unfoldable pub shapeTests : Dialect → ℕ → Bool → ℕ → ℕ → ℕ → List Test
+shapeTests d l marked n q width =
     test (ltb l 4) 1 0
     ∷ test (not marked) 1 0
-    ∷ test (not (within 1 maxNodes n)) 2 (l - 3)
-    ∷ test (ltb maxQuantifiers q) 2 (l - 2)
+    ∷ test (not (within 1 (mostNodes d) n)) 2 (l - 3)
+    ∷ test (ltb (mostQuantifiers d) q) 2 (l - 2)
     ∷ test (not (eqb l (width * n + q + 4))) 3 0
     ∷ []
 
 -- 4 and 5; the quantifiers stand from word `base` on
-unfoldable pub quantifierTests : Table → ℕ → List Test
-quantifierTests t base =
-    test (ltb (first (badQuantifier t) (t .quantifiers)) (t .quantifiers)) 4 (base + first (badQuantifier t) (t .quantifiers))
-    ∷ test (ltb (first (oneTooMany maxSets t) (t .quantifiers)) (t .quantifiers)) 5 (base + first (oneTooMany maxSets t) (t .quantifiers))
+unfoldable pub quantifierTests : Dialect → Table → ℕ → List Test
+quantifierTests d t base =
+    test (ltb (first (badQuantifier d t) (t .quantifiers)) (t .quantifiers)) 4 (base + first (badQuantifier d t) (t .quantifiers))
+    ∷ test (ltb (first (oneTooMany (mostSets d) t) (t .quantifiers)) (t .quantifiers)) 5 (base + first (oneTooMany (mostSets d) t) (t .quantifiers))
     ∷ []
 
 -- 6, of node i
@@ -66,9 +69,9 @@ unfoldable pub nodeRefusal : ℕ → ℕ → Refusal
 nodeRefusal i width = refusal 6 (width * i)
 
 -- 6 and 7; a node is `width` words, and the root's number stands at word `rootPlace`
-unfoldable pub nodeTests : Table → ℕ → ℕ → List Test
-nodeTests t width rootPlace =
-    record { holds = ltb (first (badNode t) (t .nodes)) (t .nodes); gives = nodeRefusal (first (badNode t) (t .nodes)) width }
+unfoldable pub nodeTests : Dialect → Table → ℕ → ℕ → List Test
+nodeTests d t width rootPlace =
+    record { holds = ltb (first (badNode d t) (t .nodes)) (t .nodes); gives = nodeRefusal (first (badNode d t) (t .nodes)) width }
     ∷ test (not (rootGood t)) 7 rootPlace
     ∷ []
 
@@ -77,9 +80,9 @@ unfoldable pub shapeOf : Table → Shape
 shapeOf t = record { nodes = t .nodes; quantifiers = t .quantifiers; sets = count (bindsSet t) (t .quantifiers); root = t .root }
 
 -- 4 to 7, and then acceptance. Between 5 and 6 another stored form may make further tests, `extra`; the words of 01 have none.
-unfoldable pub partsOf : Table → ℕ → ℕ → ℕ → List Test → Checked
-partsOf t base width rootPlace extra =
-    verdict (quantifierTests t base) (verdict extra (verdict (nodeTests t width rootPlace) (Accepted (shapeOf t))))
+unfoldable pub partsOf : Dialect → Table → ℕ → ℕ → ℕ → List Test → Checked
+partsOf d t base width rootPlace extra =
+    verdict (quantifierTests d t base) (verdict extra (verdict (nodeTests d t width rootPlace) (Accepted (shapeOf t))))
 
 -- ---- the words of 01
 
@@ -105,17 +108,20 @@ tableAt ws n q =
     }
 
 -- what follows 1 to 3
-unfoldable pub restOf : List ℤ → ℕ → ℕ → Checked
-restOf ws n q = partsOf (tableAt ws n q) (3 * n) 3 (length ws - 4) []
+unfoldable pub restOf : Dialect → List ℤ → ℕ → ℕ → Checked
+restOf d ws n q = partsOf d (tableAt ws n q) (3 * n) 3 (length ws - 4) []
 
--- What the checker answers for the words ws.
+-- What the checker answers for the words ws, in a dialect.
+unfoldable pub checkAs : Dialect → List ℤ → Checked
+checkAs d ws =
+    verdict (shapeTests d (length ws) (eqb (wordAt ws (length ws - 1)) mark) (nodesIn ws) (quantifiersIn ws) 3)
+    (restOf d ws (nodesIn ws) (quantifiersIn ws))
+
+-- What it answers for claims over sets.
 unfoldable pub checkOf : List ℤ → Checked
-checkOf ws =
-    verdict (shapeTests (length ws) (eqb (wordAt ws (length ws - 1)) mark) (nodesIn ws) (quantifiersIn ws) 3)
-    (restOf ws (nodesIn ws) (quantifiersIn ws))
+unfolding checkAs
+checkOf ws = checkAs SetClaims ws
 
--- What the functions below `check` ask of the words: the counts are within their limits, and nodes, quantifiers and trailer are there.
+-- What the functions below `check_as` ask of the words: nodes, quantifiers and trailer are there.
 pub record Room (ws : List ℤ) (n q : ℕ) : Type 0 where
-  pub few-nodes : n ≤ maxNodes
-  pub few-quantifiers : q ≤ maxQuantifiers
   pub room : 3 * n + q + 4 ≤ length ws

@@ -1,8 +1,10 @@
--- A claim as a table of numbers, however it is stored, and the rules on its quantifiers, nodes and root (01, the sort table and refusals 4 to 7).
+-- A claim as a table of numbers, however it is stored, and the rules on its quantifiers, nodes and root (01, the sort table and refusals 4 to 7), in
+-- a dialect.
 -- Assumes nothing.
 use mathlib.Core.Bool.{Bool, true, false, cond, not, _&&_}
 use Prim.Native.Nat.{ℕ}
 use lib.Dec.{ltb, eqb}
+use Rattle.checker.specs.declared.Dialect.{Dialect}
 use Rattle.checker.specs.declared.Sort.{Sort}
 use Rattle.checker.specs.declared.Sort.the-variants.{NoSort}
 use Rattle.checker.specs.declared.Range.{Range}
@@ -11,6 +13,7 @@ use Rattle.checker.specs.declared.Need.{Need}
 use Rattle.checker.specs.declared.Need.the-variants.{Unused, Word, SetChild, TermChild, FormulaChild, SetName, NumberName, Never}
 use Rattle.checker.specs.Search.{count}
 use Rattle.checker.specs.Kinds.{rowOf, sortOf, rangeOf, isSet, isTerm, isFormula, overSets, overNumbers}
+use Rattle.checker.specs.Dialect.{takesKind, takesQuantifier}
 
 -- What stands at each node and quantifier, negative words being `noNumber`.
 pub record Table : Type 0 where
@@ -44,11 +47,16 @@ serves Never v s r = false
 unfoldable pub fieldGood : Table → ℕ → Need → ℕ → Bool
 fieldGood t i need v = serves need v (childSort (t .kind) i v) (nameRange (t .quantifier) (t .quantifiers) v)
 
+-- both fields of node i serve
 unfoldable pub nodeGood : Table → ℕ → Bool
 nodeGood t i = fieldGood t i (rowOf (t .kind i) .a) (t .a i) && fieldGood t i (rowOf (t .kind i) .b) (t .b i)
 
-unfoldable pub badNode : Table → ℕ → Bool
-badNode t i = not (nodeGood t i)
+-- node i is of a kind that the dialect takes, and good
+unfoldable pub nodeTaken : Dialect → Table → ℕ → Bool
+nodeTaken d t i = takesKind d (t .kind i) && nodeGood t i
+
+unfoldable pub badNode : Dialect → Table → ℕ → Bool
+badNode d t i = not (nodeTaken d t i)
 
 unfoldable pub rootGood : Table → Bool
 rootGood t = isFormula (childSort (t .kind) (t .nodes) (t .root))
@@ -56,8 +64,12 @@ rootGood t = isFormula (childSort (t .kind) (t .nodes) (t .root))
 abbrev pub isKnown : Range → Bool
 isKnown r = cond (overSets r) true (overNumbers r)
 
-unfoldable pub badQuantifier : Table → ℕ → Bool
-badQuantifier t i = not (isKnown (rangeOf (t .quantifier i)))
+-- a quantifier's kind is one that the dialect takes, and known
+unfoldable pub quantifierTaken : Dialect → ℕ → Bool
+quantifierTaken d kind = takesQuantifier d kind && isKnown (rangeOf kind)
+
+unfoldable pub badQuantifier : Dialect → Table → ℕ → Bool
+badQuantifier d t i = not (quantifierTaken d (t .quantifier i))
 
 unfoldable pub bindsSet : Table → ℕ → Bool
 bindsSet t i = overSets (rangeOf (t .quantifier i))

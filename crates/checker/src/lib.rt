@@ -5,20 +5,23 @@ ghost use Prim.Native.Nat.{_+_, _*_, _-_};
 ghost use lib.ListN.{length};
 ghost use Rattle.checker.specs.Kinds.{number};
 ghost use Rattle.checker.specs.Words.{wordAt};
-ghost use Rattle.checker.specs.Check.{checkOf, tableAt, partsOf, refusal, Room};
+ghost use Rattle.checker.specs.Check.{checkAs, checkOf, tableAt, partsOf, refusal, Room};
 
+mod dialects; // the limits of each dialect, and the kinds that it takes
 mod kinds; // what a kind of node or quantifier is and requires
 mod nodes; // the check of a node
 mod quantifiers; // the checks of the quantifiers
 
 const MARK: usize = 2005;
 
-const MAX_NODES: usize = 1024;
-
-const MAX_QUANTIFIERS: usize = 32;
-
 // What a negative word reads as: over every limit.
 const NO_NUMBER: usize = 4294967295;
+
+// Which tables are taken: claims over sets, or emitted ones, larger and without sets.
+pub enum Dialect {
+    SetClaims,
+    Emitted,
+}
 
 pub struct Refusal {
     pub number: usize,
@@ -96,20 +99,20 @@ pub fn refused(number: usize, place: usize) -> Checked
 }
 
 // Refusals 4 to 7, of a table whose counts and length are right.
-fn check_parts(words: &[i32], nodes: usize, quantifiers: usize) -> Checked
+fn check_parts(words: &[i32], dialect: Dialect, nodes: usize, quantifiers: usize) -> Checked
     requires { ⌜ Room (now words) nodes quantifiers ⌝ }
-    ensures { λ r. ⌜ r ≡ partsOf (tableAt (now (words .entry)) nodes quantifiers) (3 * nodes) 3 (length (now (words .entry)) - 4) [] ⌝ }
+    ensures { λ r. ⌜ r ≡ partsOf dialect (tableAt (now (words .entry)) nodes quantifiers) (3 * nodes) 3 (length (now (words .entry)) - 4) [] ⌝ }
 {
-    let bad = quantifiers::first_bad_quantifier(words, nodes, quantifiers);
+    let bad = quantifiers::first_bad_quantifier(words, dialect, nodes, quantifiers);
     if bad < quantifiers {
         return refused(4, 3 * nodes + bad);
     }
-    let sets = quantifiers::sets_of(words, nodes, quantifiers);
+    let sets = quantifiers::sets_of(words, nodes, quantifiers, dialects::most_sets(dialect));
     let over = sets.over;
     if over < quantifiers {
         return refused(5, 3 * nodes + over);
     }
-    let broken = nodes::first_bad_node(words, nodes, quantifiers);
+    let broken = nodes::first_bad_node(words, dialect, nodes, quantifiers);
     if broken < nodes {
         return refused(6, 3 * broken);
     }
@@ -125,8 +128,8 @@ fn check_parts(words: &[i32], nodes: usize, quantifiers: usize) -> Checked
     })
 }
 
-pub fn check(words: &[i32]) -> Checked
-    ensures { λ r. ⌜ r ≡ checkOf (now (words .entry)) ⌝ }
+pub fn check_as(words: &[i32], dialect: Dialect) -> Checked
+    ensures { λ r. ⌜ r ≡ checkAs dialect (now (words .entry)) ⌝ }
 {
     let length = words.len();
     if length < 4 {
@@ -139,15 +142,21 @@ pub fn check(words: &[i32]) -> Checked
     if nodes < 1 {
         return refused(2, length - 3);
     }
-    if MAX_NODES < nodes {
+    if dialects::most_nodes(dialect) < nodes {
         return refused(2, length - 3);
     }
     let quantifiers = word(words, length - 2);
-    if MAX_QUANTIFIERS < quantifiers {
+    if dialects::most_quantifiers(dialect) < quantifiers {
         return refused(2, length - 2);
     }
     if length != 3 * nodes + quantifiers + 4 {
         return refused(3, 0);
     }
-    check_parts(words, nodes, quantifiers)
+    check_parts(words, dialect, nodes, quantifiers)
+}
+
+pub fn check(words: &[i32]) -> Checked
+    ensures { λ r. ⌜ r ≡ checkOf (now (words .entry)) ⌝ }
+{
+    check_as(words, Dialect::SetClaims)
 }

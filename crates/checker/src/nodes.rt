@@ -4,8 +4,9 @@ ghost use Prim.Native.Nat.{_<_, _≤_, _+_, _*_};
 ghost use lib.ListN.{length};
 ghost use Rattle.checker.specs.Kinds.{isSet, isTerm, isFormula, overSets, overNumbers};
 ghost use Rattle.checker.specs.Search.{first};
-ghost use Rattle.checker.specs.Table.{childSort, nameRange, serves, fieldGood, nodeGood, badNode};
+ghost use Rattle.checker.specs.Table.{childSort, nameRange, serves, fieldGood, nodeGood, nodeTaken, badNode};
 ghost use Rattle.checker.specs.Check.{tableAt, kindIn, quantifierKind, Room};
+use crate::Dialect;
 use crate::Need;
 use crate::Range;
 use crate::Sort;
@@ -146,14 +147,26 @@ fn node_good(words: &[i32], nodes: usize, quantifiers: usize, i: usize) -> bool
     false
 }
 
-// The first node that breaks the sort table, or `nodes`.
-pub fn first_bad_node(words: &[i32], nodes: usize, quantifiers: usize) -> usize
+// Whether the dialect takes the kind of node i, and the node obeys its row.
+fn node_taken(words: &[i32], dialect: Dialect, nodes: usize, quantifiers: usize, i: usize) -> bool
     requires { ⌜ Room (now words) nodes quantifiers ⌝ }
-    ensures { λ r. ⌜ r ≡ first (badNode (tableAt (now (words .entry)) nodes quantifiers)) nodes ⌝ }
+    requires { ⌜ i < nodes ⌝ }
+    ensures { λ r. ⌜ r ≡ nodeTaken dialect (tableAt (now (words .entry)) nodes quantifiers) i ⌝ }
+{
+    if crate::dialects::takes_kind(dialect, crate::word(words, 3 * i)) {
+        return node_good(words, nodes, quantifiers, i);
+    }
+    false
+}
+
+// The first node that breaks the sort table, or `nodes`.
+pub fn first_bad_node(words: &[i32], dialect: Dialect, nodes: usize, quantifiers: usize) -> usize
+    requires { ⌜ Room (now words) nodes quantifiers ⌝ }
+    ensures { λ r. ⌜ r ≡ first (badNode dialect (tableAt (now (words .entry)) nodes quantifiers)) nodes ⌝ }
 {
     let mut i = 0;
     while i < nodes {
-        if !node_good(words, nodes, quantifiers, i) {
+        if !node_taken(words, dialect, nodes, quantifiers, i) {
             return i;
         }
         i += 1;

@@ -16,7 +16,7 @@ pub record Case : Type 0 where
   pub truth : Bool
   pub steps : ℕ
 
--- The claim has this truth at this size, and the rule finds it in so many steps.
+-- The claim has this truth at this size, and the rule takes so many steps there.
 abbrev pub Right : Case → Type 0
 Right k = (TrueAt (k .size) (claimOf (k .words)) ↔ (k .truth ≡ true)) × (ruling (k .size) (claimOf (k .words)) .steps ≡ k .steps)
 

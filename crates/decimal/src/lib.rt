@@ -2,6 +2,7 @@
 mod print; // numbers, words and lines put into a text
 mod read; // numbers and words read out of a text
 
+pub use print::magnitude;
 pub use print::put_byte;
 pub use print::put_bytes;
 pub use print::put_decimal;

@@ -47,7 +47,7 @@ pub fn put_decimal(out: &mut [u8], at: usize, n: u64) -> usize
 }
 
 // A word without its sign.
-fn magnitude(w: i32) -> u64
+pub fn magnitude(w: i32) -> u64
     ensures { λ r. ⌜ r ≡ natAbs w ⌝ }
 {
     let x = w as i64;

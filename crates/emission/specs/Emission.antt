@@ -79,7 +79,7 @@ unfoldable pub emitQuantifiers : Frame → List Quantifier → List Quantifier
 emitQuantifiers f [] = []
 emitQuantifiers f (q ∷ qs) = becomes f q ++ emitQuantifiers (inside f q) qs
 
--- ---- nodes. `k` is always the number of nodes before the run.
+-- ---- nodes. Where nothing else is said, `k` is the number of nodes before the run.
 
 -- the further regions of a cardinality; node k is the result so far
 unfoldable pub sumRun : Place → ℕ → List ℕ → List Node
@@ -197,7 +197,7 @@ unfoldable pub furtherFives : Place → Place → ℕ → ℕ → ℕ → List N
 furtherFives p q k i zero = []
 furtherFives p q k i (suc n) = five p q (k + 1) i ++ conj k (k + 5) ∷ furtherFives p q (k + 6) (i + 1) n
 
--- the constraint of n parent regions; its last node says it
+-- the constraint of n parent regions, one at least; its last node says it
 unfoldable pub constraint : Place → Place → ℕ → ℕ → List Node
 constraint p q k n = five p q k 0 ++ furtherFives p q (k + 4) 1 (n - 1)
 

@@ -1,5 +1,5 @@
--- The bound of a term at size N (01, "Refusal numbers"), which no value of it exceeds, and the first node whose bound is too large (refusal 11).
--- Assumes nothing.
+-- The bound of a term at size N (01, "Refusal numbers"), which none of its values exceeds in absolute value, and the first node whose bound is
+-- too large (refusal 11). Assumes nothing.
 use mathlib.Core.Bool.{Bool}
 use mathlib.Core.List.{List, [], _∷_, _++_}
 use Prim.Native.Nat.{ℕ, _+_, _*_}

@@ -63,7 +63,7 @@ unfoldable pub over : Set → List ℕ → ℕ
 over w [] = 0
 over w (c ∷ cs) = part (w zero) c + over (λ r. w (suc r)) cs
 
--- The regions from i on, n of them, that w covers, rising.
+-- Those of the n regions from i on that w covers, rising.
 unfoldable pub covered : ℕ → ℕ → Set → List ℕ
 covered i zero w = []
 covered i (suc n) w = cond (w i) (i ∷ covered (suc i) n w) (covered (suc i) n w)

@@ -4,6 +4,7 @@
 use std::ffi::OsStr;
 use std::io::Write;
 use std::os::unix::ffi::OsStrExt;
+use std::os::unix::process::ExitStatusExt;
 use std::path::PathBuf;
 use std::process::{Command, Stdio};
 
@@ -213,4 +214,42 @@ impl Programs {
             None => Err(format!("{program} was ended by a signal: {}", output.status)),
         }
     }
+
+    /// How a program ends whose streams the shell sets up: redirections, and
+    /// behind a semicolon commands to run before it.
+    pub fn in_shell(
+        &self,
+        program: &str,
+        arguments: &[&str],
+        shell: &str,
+        text: &[u8],
+        out: Stdio,
+    ) -> Ended {
+        let (redirections, before) = shell.split_once(';').unwrap_or((shell, ":"));
+        let mut child = Command::new("sh")
+            .args(["-c", &format!("{before}\nexec \"$0\" \"$@\" {redirections}")])
+            .arg(self.folder.join(program))
+            .args(arguments)
+            .stdin(Stdio::piped())
+            .stdout(out)
+            .stderr(Stdio::piped())
+            .spawn()
+            .expect("a shell");
+        // Small enough for a pipe that nobody reads, or already closed.
+        drop(child.stdin.take().expect("stdin is piped").write_all(text));
+        let output = child.wait_with_output().expect("the shell's end");
+        Ended {
+            status: output.status.code().ok_or(output.status.signal().unwrap_or(0)),
+            printed: String::from_utf8_lossy(&output.stdout).into_owned(),
+            said: String::from_utf8_lossy(&output.stderr).into_owned(),
+        }
+    }
+}
+
+/// How a program ended: its status, or the signal that ended it, and what it
+/// wrote to standard output and to standard error.
+pub struct Ended {
+    pub status: Result<i32, i32>,
+    pub printed: String,
+    pub said: String,
 }

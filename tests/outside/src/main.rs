@@ -11,8 +11,8 @@ mod watch;
 
 use cases::tally::Tally;
 use cases::{
-    bounds, decisions, examples, exhaustive, figures, limits, ourselves, programs, rows, tables,
-    truth,
+    bounds, decisions, examples, exhaustive, figures, limits, ourselves, programs, rows, stack,
+    streams, tables, truth,
 };
 use engine::Programs;
 
@@ -48,6 +48,7 @@ fn through_library(tally: &mut Tally) {
     tally.group("rows of every length", rows::run);
     tally.group("limits of tables, outputs and sizes", limits::run);
     tally.group("limits of term bounds", bounds::run);
+    tally.group("largest tables on a small stack", stack::run);
     tally.group("figures 6 and 11 of 003", figures::run);
     tally.group("all runs of up to 7 words", exhaustive::short_runs);
     tally.group("all tables of one node", exhaustive::one_node);
@@ -72,4 +73,5 @@ fn through_programs(tally: &mut Tally, folder: &Programs) {
     tally.group("programs: random texts", |tally| programs::random_texts(tally, folder));
     tally.group("programs: arguments", |tally| programs::arguments(tally, folder));
     tally.group("programs: long outputs", |tally| programs::long_outputs(tally, folder));
+    tally.group("programs: streams that fail", |tally| streams::run(tally, folder));
 }

@@ -35,7 +35,10 @@ returns c =
     let q = c .before .before in
     let a = q .before .args in
     c .refused .ensures
-    ∙ at-4 (tableAt (now (a .words)) (a .nodes) (a .quantifiers)) (3 * a .nodes) 3 (length (now (a .words)) - 4) [] _ (q .first-bad-quantifier .ensures) (c .before .if1 .taken)
+    ∙ at-4 (a .dialect) (tableAt (now (a .words)) (a .nodes) (a .quantifiers)) (3 * a .nodes) 3 (length (now (a .words)) - 4) [] _ (q .first-bad-quantifier .ensures) (c .before .if1 .taken)
+
+most-sets-requires : tie.Need-most-sets-requires
+most-sets-requires c κs = search needs
 
 sets-of-requires : tie.Need-sets-of-requires
 sets-of-requires c κs = search needs
@@ -53,11 +56,12 @@ returns-2 : tie.Need-returns-2
 unfolding tableAt
 returns-2 c =
     let s = c .before .before in
-    let q = s .before .before in
+    let m = s .before in
+    let q = m .before .before in
     let a = q .before .args in
     c .refused2 .ensures
-    ∙ at-5 (tableAt (now (a .words)) (a .nodes) (a .quantifiers)) (3 * a .nodes) 3 (length (now (a .words)) - 4) [] _ (q .first-bad-quantifier .ensures) (s .before .if1 .left)
-    _ (s .sets-of .ensures .0) (c .before .if2 .taken)
+    ∙ at-5 (a .dialect) (tableAt (now (a .words)) (a .nodes) (a .quantifiers)) (3 * a .nodes) 3 (length (now (a .words)) - 4) [] _ (q .first-bad-quantifier .ensures) (m .before .if1 .left)
+    _ (rw (m .most-sets .ensures) at (s .sets-of .ensures .0)) (c .before .if2 .taken)
 
 first-bad-node-requires : tie.Need-first-bad-node-requires
 first-bad-node-requires c κs = search needs
@@ -73,11 +77,12 @@ unfolding tableAt nodeRefusal
 returns-3 c =
     let n = c .before .before in
     let s = n .before .before in
-    let q = s .before .before in
+    let m = s .before in
+    let q = m .before .before in
     let a = q .before .args in
     c .refused3 .ensures
-    ∙ at-6 (tableAt (now (a .words)) (a .nodes) (a .quantifiers)) (3 * a .nodes) 3 (length (now (a .words)) - 4) [] _ (q .first-bad-quantifier .ensures) (s .before .if1 .left)
-    _ (s .sets-of .ensures .0) (n .before .if2 .left) clear _ (n .first-bad-node .ensures) (c .before .if3 .taken)
+    ∙ at-6 (a .dialect) (tableAt (now (a .words)) (a .nodes) (a .quantifiers)) (3 * a .nodes) 3 (length (now (a .words)) - 4) [] _ (q .first-bad-quantifier .ensures) (m .before .if1 .left)
+    _ (rw (m .most-sets .ensures) at (s .sets-of .ensures .0)) (n .before .if2 .left) clear _ (n .first-bad-node .ensures) (c .before .if3 .taken)
 
 sub-word : tie.Need-sub-word
 sub-word c = search needs
@@ -103,11 +108,12 @@ returns-4 c =
     let w = c .before .before .before .before in
     let n = w .before .before in
     let s = n .before .before in
-    let q = s .before .before in
+    let m = s .before in
+    let q = m .before .before in
     let a = q .before .args in
     c .refused4 .ensures
-    ∙ at-7 (tableAt (now (a .words)) (a .nodes) (a .quantifiers)) (3 * a .nodes) 3 (length (now (a .words)) - 4) [] _ (q .first-bad-quantifier .ensures) (s .before .if1 .left)
-    _ (s .sets-of .ensures .0) (n .before .if2 .left) clear _ (n .first-bad-node .ensures) (w .before .if3 .left)
+    ∙ at-7 (a .dialect) (tableAt (now (a .words)) (a .nodes) (a .quantifiers)) (3 * a .nodes) 3 (length (now (a .words)) - 4) [] _ (q .first-bad-quantifier .ensures) (m .before .if1 .left)
+    _ (rw (m .most-sets .ensures) at (s .sets-of .ensures .0)) (n .before .if2 .left) clear _ (n .first-bad-node .ensures) (w .before .if3 .left)
     (root-is (tableAt (now (a .words)) (a .nodes) (a .quantifiers)) (w .word .ensures) (c .before .before .before .child-sort .ensures) (c .before .before .is-formula .ensures) (not-true _ (c .before .if4 .taken)))
 
 returns-5 : tie.Need-returns-5
@@ -116,10 +122,11 @@ returns-5 c =
     let w = c .before .before .before in
     let n = w .before .before in
     let s = n .before .before in
-    let q = s .before .before in
+    let m = s .before in
+    let q = m .before .before in
     let a = q .before .args in
-    all-pass (tableAt (now (a .words)) (a .nodes) (a .quantifiers)) (3 * a .nodes) 3 (length (now (a .words)) - 4) [] _ (q .first-bad-quantifier .ensures) (s .before .if1 .left)
-    _ (s .sets-of .ensures .0) (n .before .if2 .left) clear _ (n .first-bad-node .ensures) (w .before .if3 .left)
+    all-pass (a .dialect) (tableAt (now (a .words)) (a .nodes) (a .quantifiers)) (3 * a .nodes) 3 (length (now (a .words)) - 4) [] _ (q .first-bad-quantifier .ensures) (m .before .if1 .left)
+    _ (rw (m .most-sets .ensures) at (s .sets-of .ensures .0)) (n .before .if2 .left) clear _ (n .first-bad-node .ensures) (w .before .if3 .left)
     (root-is (tableAt (now (a .words)) (a .nodes) (a .quantifiers)) (w .word .ensures) (c .before .before .child-sort .ensures) (c .before .is-formula .ensures) (not-false _ (c .if4 .left)))
     _ _ (s .sets-of .ensures .1) (w .word .ensures)
 
@@ -132,6 +139,7 @@ check-parts-spec =
     add-refused
     refused-requires
     returns
+    most-sets-requires
     sets-of-requires
     mul-refused-2
     add-refused-2

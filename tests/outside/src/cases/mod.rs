@@ -11,6 +11,8 @@ pub mod ourselves;
 pub mod programs;
 pub mod properties;
 pub mod rows;
+pub mod stack;
+pub mod streams;
 pub mod tables;
 pub mod tally;
 pub mod truth;

@@ -11,22 +11,22 @@ use Rattle.checker.proofs.nodes.first_bad_node.Statement.{statement}
 use Rattle.checker.proofs.nodes.first_bad_node.Tie as tie
 
 abbrev Inv-loop : tie.InvT-loop
-Inv-loop words nodes quantifiers i₀ i = Upto (badNode (tableAt words nodes quantifiers)) nodes i
+Inv-loop words dialect nodes quantifiers i₀ i = Upto (badNode dialect (tableAt words nodes quantifiers)) nodes i
 
 abbrev μ-loop : tie.MeasureT-loop
-μ-loop words nodes quantifiers i₀ i = nodes - i
+μ-loop words dialect nodes quantifiers i₀ i = nodes - i
 
 loop-holds : tie.Need-loop-holds Inv-loop μ-loop
 loop-holds c = upto-none _ _
 
-node-good-requires : tie.Need-node-good-requires Inv-loop μ-loop
-node-good-requires c κs = search needs
+node-taken-requires : tie.Need-node-taken-requires Inv-loop μ-loop
+node-taken-requires c κs = search needs
 
 returns : tie.Need-returns Inv-loop μ-loop
 unfolding badNode
 returns c =
     let l = c .before .before .before .loop in
-    upto-hit _ _ (l .i) (l .inv) (c .before .before .loop-test .taken) (ap not (sym (c .before .node-good .ensures)) ∙ c .if1 .taken)
+    upto-hit _ _ (l .i) (l .inv) (c .before .before .loop-test .taken) (ap not (sym (c .before .node-taken .ensures)) ∙ c .if1 .taken)
 
 add-i : tie.Need-add-i Inv-loop μ-loop
 add-i c = omega arith
@@ -38,7 +38,7 @@ loop-again : tie.Need-loop-again Inv-loop μ-loop
 unfolding badNode
 loop-again c =
     let l = c .before .before .before .loop in
-    upto-more _ _ (l .i) (l .inv) (c .before .before .loop-test .taken) (ap not (sym (c .before .node-good .ensures)) ∙ c .if1 .left)
+    upto-more _ _ (l .i) (l .inv) (c .before .before .loop-test .taken) (ap not (sym (c .before .node-taken .ensures)) ∙ c .if1 .left)
 
 returns-2 : tie.Need-returns-2 Inv-loop μ-loop
 returns-2 c = upto-end _ _ _ (c .before .loop .inv) (c .loop-test .left)
@@ -50,7 +50,7 @@ first-bad-node-spec =
     Inv-loop
     μ-loop
     loop-holds
-    node-good-requires
+    node-taken-requires
     returns
     add-i
     loop-less

@@ -1,6 +1,4 @@
 -- `checker::quantifiers::first_bad_quantifier` meets its contract. Assumes nothing.
-use mathlib.Core.Path.{_∙_, sym, ap}
-use mathlib.Core.Bool.{not}
 use Prim.Native.Nat.{_-_}
 use native.Mathlib.Omega.{arith}
 use borrow.Author.Needs.{needs}
@@ -11,10 +9,10 @@ use Rattle.checker.proofs.quantifiers.first_bad_quantifier.Statement.{s
 use Rattle.checker.proofs.quantifiers.first_bad_quantifier.Tie as tie
 
 abbrev Inv-loop : tie.InvT-loop
-Inv-loop words nodes quantifiers i₀ i = Upto (badQuantifier (tableAt words nodes quantifiers)) quantifiers i
+Inv-loop words dialect nodes quantifiers i₀ i = Upto (badQuantifier dialect (tableAt words nodes quantifiers)) quantifiers i
 
 abbrev μ-loop : tie.MeasureT-loop
-μ-loop words nodes quantifiers i₀ i = quantifiers - i
+μ-loop words dialect nodes quantifiers i₀ i = quantifiers - i
 
 loop-holds : tie.Need-loop-holds Inv-loop μ-loop
 loop-holds c = upto-none _ _
@@ -28,17 +26,14 @@ add-word c = omega arith
 word-requires : tie.Need-word-requires Inv-loop μ-loop
 word-requires c κs = search needs
 
-range-of-requires : tie.Need-range-of-requires Inv-loop μ-loop
-range-of-requires c κs = search needs
-
-is-known-requires : tie.Need-is-known-requires Inv-loop μ-loop
-is-known-requires c κs = search needs
+quantifier-taken-requires : tie.Need-quantifier-taken-requires Inv-loop μ-loop
+quantifier-taken-requires c κs = search needs
 
 returns : tie.Need-returns Inv-loop μ-loop
 unfolding badQuantifier tableAt
 returns c =
-    let l = c .before .before .before .before .before .loop in
-    upto-hit _ _ (l .i) (l .inv) (c .before .before .before .before .loop-test .taken) (cc)
+    let l = c .before .before .before .before .loop in
+    upto-hit _ _ (l .i) (l .inv) (c .before .before .before .loop-test .taken) (cc)
 
 add-i : tie.Need-add-i Inv-loop μ-loop
 add-i c = omega arith
@@ -49,8 +44,8 @@ loop-less c = omega arith
 loop-again : tie.Need-loop-again Inv-loop μ-loop
 unfolding badQuantifier tableAt
 loop-again c =
-    let l = c .before .before .before .before .before .loop in
-    upto-more _ _ (l .i) (l .inv) (c .before .before .before .before .loop-test .taken) (cc)
+    let l = c .before .before .before .before .loop in
+    upto-more _ _ (l .i) (l .inv) (c .before .before .before .loop-test .taken) (cc)
 
 returns-2 : tie.Need-returns-2 Inv-loop μ-loop
 returns-2 c = upto-end _ _ _ (c .before .loop .inv) (c .loop-test .left)
@@ -65,8 +60,7 @@ first-bad-quantifier-spec =
     mul-word
     add-word
     word-requires
-    range-of-requires
-    is-known-requires
+    quantifier-taken-requires
     returns
     add-i
     loop-less

@@ -7,18 +7,18 @@ use borrow.Author.Needs.{needs}
 use denote.Ref.{now}
 use Rattle.checker.specs.Search.{count}
 use Rattle.checker.specs.Table.{oneTooMany, bindsSet}
-use Rattle.checker.specs.Check.{tableAt, maxSets}
+use Rattle.checker.specs.Check.{tableAt}
 use Rattle.checker.proofs.Search.{Upto, upto-none, upto-end, count-le}
 use Rattle.checker.proofs.Rules.{set-over, set-more, set-same}
 use Rattle.checker.proofs.quantifiers.sets_of.Statement.{statement}
 use Rattle.checker.proofs.quantifiers.sets_of.Tie as tie
 
 abbrev Inv-loop : tie.InvT-loop
-Inv-loop words nodes quantifiers i₀ seen₀ i seen =
-    Upto (oneTooMany maxSets (tableAt words nodes quantifiers)) quantifiers i × (seen ≡ count (bindsSet (tableAt words nodes quantifiers)) i)
+Inv-loop words nodes quantifiers most i₀ seen₀ i seen =
+    Upto (oneTooMany most (tableAt words nodes quantifiers)) quantifiers i × (seen ≡ count (bindsSet (tableAt words nodes quantifiers)) i)
 
 abbrev μ-loop : tie.MeasureT-loop
-μ-loop words nodes quantifiers i₀ seen₀ i seen = quantifiers - i
+μ-loop words nodes quantifiers most i₀ seen₀ i seen = quantifiers - i
 
 loop-holds : tie.Need-loop-holds Inv-loop μ-loop
 unfolding count
@@ -44,7 +44,7 @@ unfolding bindsSet tableAt
 returns c =
     let a = c .before .before .before .before .before .before .before .args in
     let l = c .before .before .before .before .before .before .loop in (
-      set-over maxSets (tableAt (now (a .words)) (a .nodes) (a .quantifiers)) (a .quantifiers) (l .i) (l .seen) (l .inv .0) (l .inv .1)
+      set-over (a .most) (tableAt (now (a .words)) (a .nodes) (a .quantifiers)) (a .quantifiers) (l .i) (l .seen) (l .inv .0) (l .inv .1)
           (c .before .before .before .before .before .loop-test .taken) (cc) (c .if2 .taken),
       l .inv .1,
     )
@@ -67,8 +67,8 @@ loop-again c =
     let l = c .before .before .before .before .before .loop in
     let h = c .before .before .before .before .loop-test .taken in
     ⊎-elim
-    (λ w. rw (w .2) (set-more maxSets (tableAt (now (a .words)) (a .nodes) (a .quantifiers)) (a .quantifiers) (l .i) (l .seen) (l .inv .0) (l .inv .1) h (cc (w .0 .taken)) (w .1 .left)))
-    (λ w. rw (w .1) (set-same maxSets (tableAt (now (a .words)) (a .nodes) (a .quantifiers)) (a .quantifiers) (l .i) (l .seen) (l .inv .0) (l .inv .1) h (cc (w .0 .left))))
+    (λ w. rw (w .2) (set-more (a .most) (tableAt (now (a .words)) (a .nodes) (a .quantifiers)) (a .quantifiers) (l .i) (l .seen) (l .inv .0) (l .inv .1) h (cc (w .0 .taken)) (w .1 .left)))
+    (λ w. rw (w .1) (set-same (a .most) (tableAt (now (a .words)) (a .nodes) (a .quantifiers)) (a .quantifiers) (l .i) (l .seen) (l .inv .0) (l .inv .1) h (cc (w .0 .left))))
     (c .if1 .came)
 
 returns-2 : tie.Need-returns-2 Inv-loop μ-loop

@@ -1,0 +1,186 @@
+// The reducer in plain Rust: the same emission, counted and then written.
+use super::table::{binds_set, uses, Table, MAX_NODES};
+
+struct Writer<'a> {
+    out: &'a mut [i32],
+    at: usize,
+}
+
+impl Writer<'_> {
+    fn put(&mut self, kind: i32, a: i32, b: i32) {
+        self.out[3 * self.at..3 * self.at + 3].copy_from_slice(&[kind, a, b]);
+        self.at += 1;
+    }
+
+    fn back(&self, n: usize) -> i32 {
+        (self.at - n) as i32
+    }
+
+    fn region(&mut self, level: usize, first: usize, r: usize) {
+        if level == 0 {
+            self.put(12, 0, 0);
+        } else {
+            self.put(10, (first + r) as i32, 0);
+        }
+    }
+
+    fn card(&mut self, mut p: u64, level: usize, first: usize) {
+        if p == 0 {
+            return self.put(11, 0, 0);
+        }
+        self.region(level, first, p.trailing_zeros() as usize);
+        p &= p - 1;
+        while p != 0 {
+            self.region(level, first, p.trailing_zeros() as usize);
+            self.put(13, self.back(2), self.back(1));
+            p &= p - 1;
+        }
+    }
+
+    fn empty(&mut self, p: u64, level: usize, first: usize) {
+        self.card(p, level, first);
+        self.put(11, 0, 0);
+        self.put(20, self.back(2), self.back(1));
+    }
+}
+
+fn card_nodes(p: u64) -> usize {
+    (2 * p.count_ones() as usize).saturating_sub(1).max(1)
+}
+
+struct Reduction<'a> {
+    t: Table<'a>,
+    pats: [u64; MAX_NODES],
+    // The emitted node that stands for each.
+    last: [usize; MAX_NODES],
+    // The first emitted quantifier of each.
+    number: [usize; 32],
+    // The emitted quantifiers, and where those of the final regions start.
+    quantifiers: usize,
+    level: usize,
+    first: usize,
+}
+
+impl Reduction<'_> {
+    fn number_quantifiers(&mut self) {
+        for j in 0..self.t.quantifiers {
+            self.number[j] = self.quantifiers;
+            if binds_set(self.t.quantifier(j)) {
+                self.first = self.quantifiers;
+                self.level += 1;
+                self.quantifiers += 1 << self.level;
+            } else {
+                self.quantifiers += 1;
+            }
+        }
+    }
+
+    fn words_needed(&mut self) -> usize {
+        let t = &self.t;
+        let alls = (0..t.quantifiers).filter(|&j| t.quantifier(j) == 4).count();
+        let mut nodes = 6 * ((1 << t.sets) - 1) + alls;
+        for i in 0..t.nodes {
+            let (k, a, b) = t.node(i);
+            self.pats[i] = t.pattern(&self.pats, i);
+            nodes += match k {
+                1..=6 => 0,
+                16 => card_nodes(self.pats[i]),
+                24 => card_nodes(self.pats[i]) + 2,
+                23 => {
+                    let (p, q) = (self.pats[a as usize], self.pats[b as usize]);
+                    card_nodes(p & !q) + card_nodes(q & !p) + 5
+                }
+                _ => 1,
+            };
+        }
+        3 * nodes + self.quantifiers + 4
+    }
+
+    fn put_nodes(&mut self, w: &mut Writer) {
+        let (level, first) = (self.level, self.first);
+        for i in 0..self.t.nodes {
+            let (k, a, b) = self.t.node(i);
+            match k {
+                1..=6 => continue,
+                16 => w.card(self.pats[i], level, first),
+                24 => w.empty(self.pats[i], level, first),
+                23 => {
+                    let (p, q) = (self.pats[a as usize], self.pats[b as usize]);
+                    w.empty(p & !q, level, first);
+                    let one = w.back(1);
+                    w.empty(q & !p, level, first);
+                    w.put(25, one, w.back(1));
+                }
+                10 => w.put(10, self.number[a as usize] as i32, 0),
+                _ => {
+                    let new = |f: usize, c: i32| if uses(k, f) { self.last[c as usize] as i32 } else { c };
+                    w.put(k, new(0, a), new(1, b));
+                }
+            }
+            self.last[i] = w.at - 1;
+        }
+    }
+
+    // Set quantifier j's constraint around a body: the new body.
+    fn put_constraint(&self, w: &mut Writer, j: usize, body: i32) -> i32 {
+        let (mut outer, mut from) = (0, 0);
+        for e in (0..j).filter(|&e| binds_set(self.t.quantifier(e))) {
+            (outer, from) = (outer + 1, self.number[e]);
+        }
+        let inner = self.number[j];
+        for r in 0..1 << outer {
+            w.region(outer, from, r);
+            w.put(10, (inner + 2 * r) as i32, 0);
+            w.put(10, (inner + 2 * r + 1) as i32, 0);
+            w.put(13, w.back(2), w.back(1));
+            w.put(20, w.back(4), w.back(1));
+            if r > 0 {
+                w.put(25, w.back(6), w.back(1));
+            }
+        }
+        if self.t.quantifier(j) == 3 {
+            w.put(25, w.back(1), body);
+        } else {
+            w.put(27, w.back(1), 0);
+            w.put(26, w.back(1), body);
+        }
+        w.back(1)
+    }
+
+    fn put_quantifiers(&self, out: &mut [i32], mut at: usize) -> usize {
+        let mut level = 0;
+        for j in 0..self.t.quantifiers {
+            let k = self.t.quantifier(j);
+            let (n, word) = if binds_set(k) {
+                level += 1;
+                (1 << level, k + 2)
+            } else {
+                (1, k)
+            };
+            out[at..at + n].fill(word);
+            at += n;
+        }
+        at
+    }
+}
+
+// How many words were written; none, if the table is refused or does not fit.
+pub fn reduce(words: &[i32], out: &mut [i32]) -> Option<usize> {
+    let t = Table::check(words)?;
+    let mut r = Reduction { t, pats: [0; MAX_NODES], last: [0; MAX_NODES], number: [0; 32], quantifiers: 0, level: 0, first: 0 };
+    r.number_quantifiers();
+    let needed = r.words_needed();
+    if out.len() < needed {
+        return None;
+    }
+    let mut w = Writer { out, at: 0 };
+    r.put_nodes(&mut w);
+    let mut body = r.last[r.t.root] as i32;
+    for j in (0..r.t.quantifiers).rev().filter(|&j| binds_set(r.t.quantifier(j))) {
+        body = r.put_constraint(&mut w, j, body);
+    }
+    let total = w.at;
+    let at = r.put_quantifiers(out, 3 * total);
+    out[at..at + 4].copy_from_slice(&[body, total as i32, r.quantifiers as i32, 2005]);
+    Some(needed)
+}

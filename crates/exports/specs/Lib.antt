@@ -1,0 +1,2 @@
+-- What the exported functions put into a lent row.
+pub mod Rows
