@@ -1,4 +1,4 @@
-/* The decider in plain C: the same splits in the same order, values of settled nodes kept. */
+/* The decider in plain C: the same splits in the same order, regions without ports passed over, values of settled nodes kept. */
 #include <string.h>
 #include "table.h"
 
@@ -55,6 +55,7 @@ static void evaluate(Search *s, const uint32_t *counts, int n, int known, int to
 
 /* 0 false, 1 true, 2 spent */
 static int splits(Search *s, int known, int h) {
+    for (; h < s->regions && s->counts[h] == 0; h++) s->counts[2 * h] = s->counts[2 * h + 1] = 0;
     if (h == s->regions) {
         if (s->left == 0) return 2;
         s->left--;

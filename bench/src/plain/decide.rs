@@ -1,4 +1,4 @@
-// The decider in plain Rust: the same splits in the same order, values of settled nodes kept.
+// The decider in plain Rust: the same splits in the same order, regions without ports passed over, values of settled nodes kept.
 use super::table::{uses, Table, MAX_NODES};
 
 struct Search<'a> {
@@ -61,7 +61,12 @@ impl Search<'_> {
         }
     }
 
-    fn splits(&mut self, mut known: usize, h: usize) -> Found {
+    fn splits(&mut self, mut known: usize, mut h: usize) -> Found {
+        while h < self.regions && self.counts[h] == 0 {
+            self.counts[2 * h] = 0;
+            self.counts[2 * h + 1] = 0;
+            h += 1;
+        }
         if h == self.regions {
             if self.left == 0 {
                 return Found::Spent;

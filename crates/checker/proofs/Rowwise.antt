@@ -9,15 +9,14 @@ use borrow.Author.Tests.{eqb-true, lt-ltb, ltb-true}
 use lib.Dec.{eqb, ltb}
 use lib.IntN.{ℤ, pos, negsuc}
 use lib.ListN.{length, getD}
-use Rattle.checker.specs.declared.Row.{Row}
 use Rattle.checker.specs.declared.Sort.{Sort}
 use Rattle.checker.specs.declared.Sort.the-variants.{ASet, ATerm, AFormula, NoSort}
 use Rattle.checker.specs.declared.Range.{Range}
 use Rattle.checker.specs.declared.Range.the-variants.{Sets, Numbers, NoRange}
 use Rattle.checker.specs.declared.Need.{Need}
-use Rattle.checker.specs.declared.Need.the-variants.{Unused, Word, SetChild, TermChild, FormulaChild, SetName, NumberName, Never}
+use Rattle.checker.specs.declared.Need.the-variants.{Unused, SetChild, TermChild, FormulaChild, SetName, NumberName}
 use Rattle.checker.specs.Claim.{Node, setVar, empty, whole, union, inter, compl, numVar, const, maxc, sum, diff, multiple, card, equal, less, divided, setEqual, subset, conj, disj, neg, unknown, Quantifier, intQ}
-use Rattle.checker.specs.Kinds.{noNumber, number, Entry, sortTable, noEntry, entryIn, rowOf, nodeOf, sortOf, rangeOf, isSet, isTerm, isFormula, overSets, overNumbers}
+use Rattle.checker.specs.Kinds.{noNumber, number, Entry, sortTable, entryIn, rowOf, nodeOf, sortOf, rangeOf, isSet, isTerm, isFormula, overSets, overNumbers}
 use Rattle.checker.specs.Words.{fieldsOf, nodeWords}
 use Rattle.checker.specs.Sorts.{sort, Is, isSetQ, Binds, Fits}
 use Rattle.checker.specs.Table.{childSort, nameRange, serves}

@@ -1,7 +1,7 @@
 -- A signed word read as a number: what the machine's test of the sign and its cast say, as facts of `number`.
 -- The machine holds the word's bits, so each fact is first carried from `toZ (ofZ z)` to z, which fits.
 -- Assumes nothing.
-use mathlib.Core.Path.{_≡_, refl, sym, subst, ap}
+use mathlib.Core.Path.{_≡_, refl, ap}
 use mathlib.Core.Bool.{Bool, true, false, true≢false}
 use Prim.Native.Nat.{ℕ, _<_, _≤_, _^_}
 use mathlib.Core.List.{List}

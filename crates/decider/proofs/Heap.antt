@@ -2,8 +2,8 @@
 -- Assumes nothing.
 use mathlib.Core.Path.{_≡_, refl, sym, ap, ap₂, _∙_}
 use mathlib.Core.Bool.{Bool, true, false}
-use mathlib.Core.List.{List, [], _∷_, _++_, append-assoc}
-use Prim.Native.Nat.{ℕ, zero, suc, _+_, _-_, _≤_, _<_}
+use mathlib.Core.List.{List, [], _∷_, append-assoc}
+use Prim.Native.Nat.{ℕ, suc, _+_, _-_, _≤_, _<_}
 use native.Mathlib.Numerals.{add-one}
 use native.Mathlib.Omega.{arith}
 use borrow.Author.Tests.{leb-true, leb-false}
@@ -13,7 +13,7 @@ use lib.Seq.{take-suc-set, getD-take, take-take, take-at, drop-at, take-add, len
 use Rattle.checker.specs.Claim.{Claim}
 use Rattle.decider.specs.Rule.{Ruling, Plan, tries, split, rule}
 use Rattle.decider.specs.Plan.{planOf}
-use Rattle.decider.specs.Standing.{Total}
+use Rattle.decider.specs.Standing.{Total, finals}
 use Rattle.decider.proofs.Total.{total, total-split}
 
 -- ---- the array
@@ -56,6 +56,25 @@ final-part l R s start e room = go (leb R s) refl
         let short : length (take s l) ≤ R = omega (arith, length-take-le s l room) in
         rw a (sym (drop-of-length-le (take s l) short))
 
+-- Split h is made: e is what the counts were at entry, l what they were before it, with the same front, and `given` what they are then.
+module _ (h : ℕ) (e l given : List ℕ) (k : ℕ) (s : take (h + h) l ≡ take (h + h) e) (p : take (h + 1 + (h + 1)) given ≡ split (take (h + h) l) h k) where
+  pub given-is : take (h + 1 + (h + 1)) given ≡ split (take (h + h) e) h k
+  given-is = p ∙ ap (λ z. split z h k) s
+
+  -- the counts before the children stand, also after a call that leaves the children
+  pub still : h + h ≤ length e → (left : List ℕ) → take (h + 1 + (h + 1)) left ≡ take (h + 1 + (h + 1)) given → take (h + h) left ≡ take (h + h) e
+  still room left q =
+      let n : h + h ≤ h + 1 + (h + 1) = omega arith in
+      sym (take-take (h + h) (h + 1 + (h + 1)) left n) ∙ ap (take (h + h)) (q ∙ given-is)
+      ∙ take-at (take (h + h) e) ((getD (take (h + h) e) h 0 - k) ∷ k ∷ []) (h + h) (length-take-le (h + h) e room)
+
+  -- the counts still add up
+  pub total-more : (size : ℕ) → 0 < h → h + h ≤ length e → k ≤ getD e h 0 → Total e h size → Total given (h + 1) size
+  total-more size pos room le t =
+      let below : h < h + h = omega arith in
+      let at : getD (take (h + h) e) h 0 ≡ getD e h 0 = getD-take (h + h) e h 0 below in
+      ap (λ z. total (drop (h + 1) z)) given-is ∙ total-split (take (h + h) e) h k pos (length-take-le (h + h) e room) (omega arith) ∙ t
+
 -- ---- the rule
 
 -- e is what the counts were at entry, h the next split, and `regions` where the splits end
@@ -74,31 +93,9 @@ module _ (P : Plan) (regions h : ℕ) (e : List ℕ) where
   unfolding rule
   rule-more lt = let z : regions - h ≡ suc (regions - (h + 1)) = omega arith in rw z
 
-  -- The call for try k: l is what the counts were in the loop, and `given` what they were once the children were written.
-  module _ (l given : List ℕ) (k : ℕ) (s : take (h + h) l ≡ take (h + h) e) (p : take (h + 1 + (h + 1)) given ≡ split (take (h + h) l) h k) where
-    pub given-is : take (h + 1 + (h + 1)) given ≡ split (take (h + h) e) h k
-    given-is = p ∙ ap (λ z. split z h k) s
-
-    pub called : rule P (regions - (h + 1)) (h + 1) (take (h + 1 + (h + 1)) given) ≡ next k
-    called = ap (rule P (regions - (h + 1)) (h + 1)) given-is
-
-    -- the counts before the children stand after the call
-    pub still : h + h ≤ length e → (left : List ℕ) → take (h + 1 + (h + 1)) left ≡ take (h + 1 + (h + 1)) given → take (h + h) left ≡ take (h + h) e
-    still room left q =
-        let n : h + h ≤ h + 1 + (h + 1) = omega arith in
-        sym (take-take (h + h) (h + 1 + (h + 1)) left n) ∙ ap (take (h + h)) (q ∙ given-is)
-        ∙ take-at (take (h + h) e) ((getD (take (h + h) e) h 0 - k) ∷ k ∷ []) (h + h) (length-take-le (h + h) e room)
-
-    -- the counts still add up
-    pub total-more : (size : ℕ) → 0 < h → h + h ≤ length e → k ≤ getD e h 0 → Total e h size → Total given (h + 1) size
-    total-more size pos room le t =
-        let below : h < h + h = omega arith in
-        let at : getD (take (h + h) e) h 0 ≡ getD e h 0 = getD-take (h + h) e h 0 below in
-        ap (λ z. total (drop (h + 1) z)) given-is ∙ total-split (take (h + h) e) h k pos (length-take-le (h + h) e room) (omega arith) ∙ t
-
-  -- The last half of the array's front are the regions that stand.
-  pub leaf : h ≡ regions → h + h ≤ length e → rule P (regions - h) h (take (h + h) e) ≡ record { truth = P .matrix (take (h + h - h) (drop h e)); steps = 1 }
-  leaf same room = rw (final-part e h (h + h) h (omega arith) room) (rule-none same)
+  -- then the final regions are all there
+  pub leaf : h ≡ regions → rule P (regions - h) h (take (h + h) e) ≡ record { truth = P .matrix (finals regions regions e); steps = 1 }
+  leaf same = rule-none same ∙ ap (λ n. record { truth = P .matrix (drop n (take (n + n) e)); steps = 1 }) same
 
 -- The run of all tries at split h is the rule there.
 pub run : (c : Claim) (regions h : ℕ) (e : List ℕ) → 0 < h → h < regions → (some : Bool) → some ≡ planOf c .some h

@@ -10,6 +10,7 @@ pub mod Total
 pub mod Admitted
 pub mod Demand
 pub mod Heap
+pub mod Passing
 pub mod Levels
 pub mod Settling
 pub mod Shapes

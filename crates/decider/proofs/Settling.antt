@@ -3,22 +3,22 @@ use mathlib.Core.Path.{_≡_, refl, sym, ap, subst, _∙_}
 use mathlib.Core.Bool.{Bool, true, false}
 use mathlib.Core.List.{List, [], _∷_, _++_}
 use Prim.Native.Nat.{ℕ, zero, suc, _+_, _-_, _^_, _≤_, _<_, zero-le}
-use native.Mathlib.Nat.{le-refl, le-trans, le-of-eq}
+use native.Mathlib.Nat.{le-refl}
 use native.Mathlib.Omega.{arith}
 use borrow.Author.Tests.{leb-true, leb-false}
 use lib.Dec.{leb}
 use lib.IntN.{ℤ}
 use lib.ListN.{length, getD, take, drop, length-drop, drop-of-length-le}
-use lib.Seq.{drop-drop, drop-append-le, length-take-le, getD-take}
+use lib.Seq.{drop-drop, drop-append-le, length-take-le, getD-take, take-add}
 use Rattle.checker.specs.Claim.{Claim}
 use Rattle.checker.specs.Words.{claimOf}
 use Rattle.checker.specs.Sorts.{sets}
 use Rattle.region.specs.Regions.{over}
-use Rattle.matrix.specs.Known.{Counts, Open, Known, Settled}
+use Rattle.matrix.specs.Known.{Counts, Open, Known}
 use Rattle.matrix.proofs.Known.{known-more, order-less}
 use Rattle.matrix.proofs.Open.{open-some}
 use Rattle.decider.specs.Rule.{split}
-use Rattle.decider.specs.Standing.{Total, finals, Prepared, Guided}
+use Rattle.decider.specs.Standing.{Total, finals, Passed, Prepared, Guided}
 use Rattle.decider.proofs.Total.{total, total-next}
 
 -- ---- the final regions that stand before split h
@@ -72,6 +72,17 @@ pub known-split : (c : Claim) (N : ℕ) (order : List ℕ) (n regions h k : ℕ)
 known-split c N order n regions h k l given xs e u =
     let m = finals-more (take (h + h) l) ((getD (take (h + h) l) h 0 - k) ∷ k ∷ []) regions in
     subst (λ z. Known c N z order n xs) (sym (ap (drop regions) e ∙ m .1)) (known-more c N order n (finals regions h l) (m .0) xs u)
+
+-- The same where regions without ports are passed over.
+pub known-passed : (c : Claim) (N : ℕ) (order : List ℕ) (n regions h r : ℕ) (l m : List ℕ) (xs : List ℤ)
+    → Passed regions h l r m → Known c N (finals regions h l) order n xs → Known c N (finals regions r m) order n xs
+known-passed c N order n regions h r l m xs p u =
+    let more = take (r + r - (h + h)) (drop (h + h) m) in
+    let front : take (r + r) m ≡ take (h + h) l ++ more =
+    let sum : h + h + (r + r - (h + h)) ≡ r + r = omega (arith, p .from) in
+    ap (λ k. take k m) (sym sum) ∙ take-add (h + h) (r + r - (h + h)) m ∙ ap (λ z. z ++ more) (p .stands) in
+    let f = finals-more (take (h + h) l) more regions in
+    subst (λ z. Known c N z order n xs) (sym (ap (drop regions) front ∙ f .1)) (known-more c N order n (finals regions h l) (f .0) xs u)
 
 -- ---- what a call leaves as it was
 

@@ -1,6 +1,5 @@
 -- Every ruling takes a step, so an allowance of 0 is always spent. Assumes nothing.
-use mathlib.Core.Path.{_≡_, _∙_, ap}
-use mathlib.Core.Bool.{Bool, cond}
+use mathlib.Core.Path.{_≡_}
 use mathlib.Core.List.{List, [], _∷_}
 use Prim.Native.Nat.{ℕ, zero, suc, _+_, _-_, _≤_, _<_, _^_}
 use native.Mathlib.Omega.{arith}
@@ -12,7 +11,7 @@ use Rattle.checker.specs.Claim.{Claim}
 use Rattle.checker.specs.Words.{claimOf}
 use Rattle.checker.specs.Sorts.{sets}
 use Rattle.checker.specs.Check.{checkOf}
-use Rattle.decider.specs.declared.Decision.the-variants.{True, False, Spent}
+use Rattle.decider.specs.declared.Decision.the-variants.{Spent}
 use Rattle.decider.specs.Rule.{Ruling, Plan, split, rule}
 use Rattle.decider.specs.Plan.{planOf, ruling}
 use Rattle.decider.specs.Decision.{admission, outcomeOf, decided, decisionOf}

@@ -1,15 +1,15 @@
 -- P6: the truth that the rule finds is the claim's, over counts and so over sets. Assumes nothing.
-use mathlib.Core.Path.{_≡_, refl, sym, _∙_, ap, fun-ext}
+use mathlib.Core.Path.{_≡_, refl, _∙_, ap, fun-ext}
 use mathlib.Core.Logic.{_↔_, Iff·rfl, Iff·symm, Iff·trans}
-use mathlib.Core.Bool.{Bool, true, false, cond}
+use mathlib.Core.Bool.{Bool, true, false}
 use mathlib.Core.List.{List, [], _∷_, _++_, append-assoc, append-nil}
-use Prim.Native.Nat.{ℕ, zero, suc, _+_, _*_, _-_, _/_, _^_, _≤_, _<_}
+use Prim.Native.Nat.{ℕ, zero, suc, _+_, _*_, _-_, _^_, _≤_, _<_}
 use native.Mathlib.Nat.{zero-add, add-zero, mul-le-mul-left, pow-suc}
 use native.Mathlib.Numerals.{add-one}
 use native.Mathlib.Omega.{arith}
 use borrow.Author.Tests.{lt-ltb, le-ltb}
 use lib.Dec.{T}
-use lib.ListN.{length, getD, drop, length-append, length-drop}
+use lib.ListN.{length, getD, drop, length-append}
 use lib.Pow.{pow-pos}
 use lib.Seq.{drop-cons, drop-append-le}
 use Rattle.checker.specs.Claim.{Quantifier, intQ, setQ, countQ, Claim}

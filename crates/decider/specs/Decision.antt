@@ -1,12 +1,11 @@
 -- What the decider answers (01, "Refusal numbers" and "The decider"): refusals 1 to 7 as the checker gives them, then 9, 10 and 11, and
 -- then the rule's truth and steps if the allowance suffices. Assumes nothing.
-use mathlib.Core.Bool.{Bool, true, false, cond, not}
+use mathlib.Core.Bool.{Bool, true, cond, not}
 use mathlib.Core.List.{List, [], _∷_}
 use Prim.Native.Nat.{ℕ, _+_, _*_}
 use lib.Dec.{leb, ltb}
 use lib.IntN.{ℤ}
 use lib.ListN.{length, getD}
-use Rattle.checker.specs.declared.Shape.{Shape}
 use Rattle.checker.specs.declared.Checked.{Checked}
 use Rattle.checker.specs.declared.Checked.the-variants as checked
 use Rattle.checker.specs.Claim.{intQ, Claim}

@@ -3,7 +3,7 @@
 use mathlib.Core.Path.{_≡_}
 use mathlib.Core.Bool.{Bool, true}
 use mathlib.Core.List.{List}
-use Prim.Native.Nat.{ℕ, _+_, _^_, _≤_, _<_}
+use Prim.Native.Nat.{ℕ, _+_, _-_, _^_, _≤_, _<_}
 use lib.Dec.{eqb}
 use lib.IntN.{ℤ}
 use lib.ListN.{length, getD, take, drop}
@@ -14,7 +14,8 @@ use Rattle.region.specs.Regions.{over}
 use Rattle.matrix.specs.Entry.{Filled}
 use Rattle.matrix.specs.Order.{Order}
 use Rattle.matrix.specs.Known.{Ready, Scheduled}
-use Rattle.decider.specs.Plan.{someAt}
+use Rattle.decider.specs.Rule.{rule}
+use Rattle.decider.specs.Plan.{someAt, planOf}
 use Rattle.decider.specs.Decision.{maxSize}
 
 -- ---- counts
@@ -26,6 +27,14 @@ Total counts h size = over (λ r. true) (drop h (take (h + h) counts)) ≡ size
 -- The counts of the final regions that stand when split h is next.
 abbrev pub finals : ℕ → ℕ → List ℕ → List ℕ
 finals regions h counts = drop regions (take (h + h) counts)
+
+-- The regions from h up to r have no ports and are split. The counts below 2 h stand, and the rule at h is the rule at r.
+pub record Passed (regions h : ℕ) (before : List ℕ) (r : ℕ) (after : List ℕ) : Type 0 where
+  pub from : h ≤ r
+  pub upto : r ≤ regions
+  pub stands : take (h + h) after ≡ take (h + h) before
+  pub total : (size : ℕ) → Total before h size → Total after r size
+  pub ruled : (c : Claim) → rule (planOf c) (regions - h) h (take (h + h) before) ≡ rule (planOf c) (regions - r) r (take (r + r) after)
 
 -- ---- what is filled before
 
@@ -48,6 +57,7 @@ pub record Prepared (ws : List ℤ) (patterns order : List ℕ) (room size rows 
 -- The splits have their kinds, the number of nodes that the first final regions settle is known, and there is room for all counts.
 pub record Guided (c : Claim) (kinds upto patterns order : List ℕ) (room rows regions : ℕ) : Type 0 where
   pub final : regions ≡ 2 ^ sets (c .quantifiers)
+  pub few : regions ≤ 64
   pub roomy : regions + regions ≤ room
   pub long : (regions ≤ length kinds) × (regions ≤ length upto)
   pub quantified : Kinds kinds (c .quantifiers) regions

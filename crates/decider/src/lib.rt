@@ -58,6 +58,22 @@ fn rule_on(words: &[i32], size: u32, shape: Shape, a: Allowance) -> Reply
     let mut counts = [0u32; 128];
     counts[1] = size;
     let root = shape.root;
+    let h = search::pass(&mut counts, regions, 1);
+    if h == regions {
+        return search::step(
+            words,
+            &patterns,
+            &order,
+            rows,
+            root,
+            size,
+            regions,
+            &counts,
+            &mut values,
+            0,
+            a,
+        );
+    }
     search::splits(
         &mut counts,
         &mut values,
@@ -71,7 +87,7 @@ fn rule_on(words: &[i32], size: u32, shape: Shape, a: Allowance) -> Reply
         size,
         regions,
         0,
-        1,
+        h,
         a,
     )
 }

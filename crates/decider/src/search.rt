@@ -9,7 +9,7 @@ ghost use Rattle.matrix.specs.Known.{Counts, Known, Settled, Kept};
 ghost use Rattle.decider.specs.Rule.{split, rule};
 ghost use Rattle.decider.specs.Plan.{planOf};
 ghost use Rattle.decider.specs.Answer.{reply, halts};
-ghost use Rattle.decider.specs.Standing.{Total, finals, Prepared, Guided};
+ghost use Rattle.decider.specs.Standing.{Total, finals, Passed, Prepared, Guided};
 use crate::allowance::Allowance;
 use crate::allowance::Reply;
 
@@ -37,14 +37,31 @@ fn children(counts: &mut [u32], h: usize, k: u32)
     counts[h + h + 1] = k;
 }
 
+// Passes over the regions from h on that have no ports: the only split of such a region is into two without ports. The first region left.
+pub fn pass(counts: &mut [u32], regions: usize, h: usize) -> usize
+    requires { ⌜ (0 < h) × (h ≤ regions) × (regions + regions ≤ length (now counts)) ⌝ }
+    ensures { λ r. ⌜ Passed regions h (now (counts .entry)) r (now (counts .exit)) ⌝ }
+{
+    let mut here = h;
+    while here < regions {
+        if 0 < counts[here] {
+            return here;
+        }
+        children(counts, here, 0);
+        here += 1;
+    }
+    here
+}
+
 // One step: an evaluation of the matrix, paid for. The nodes before place `known` of the order stand already.
-fn step(
+pub fn step(
     words: &[i32],
     patterns: &[u64],
     order: &[usize],
     rows: usize,
     root: usize,
     size: u32,
+    regions: usize,
     counts: &[u32],
     values: &mut [i32],
     known: usize,
@@ -52,10 +69,10 @@ fn step(
 ) -> Reply
     requires { ⌜ Prepared (now words) (now patterns) (now order) (length (now values)) size rows ⌝ }
     requires { ⌜ Has (now order) rows root × (root ≡ claimOf (now words) .root) ⌝ }
-    requires { ⌜ Counts (claimOf (now words)) size (now counts) ⌝ }
-    requires { ⌜ (known ≤ rows) × Known (claimOf (now words)) size (now counts) (now order) known (now values) ⌝ }
+    requires { ⌜ (regions + regions ≤ length (now counts)) × Counts (claimOf (now words)) size (finals regions regions (now counts)) ⌝ }
+    requires { ⌜ (known ≤ rows) × Known (claimOf (now words)) size (finals regions regions (now counts)) (now order) known (now values) ⌝ }
     requires { ⌜ a .left + a .taken < 2 ^ 64 ⌝ }
-    ensures { λ r. ⌜ r ≡ reply (record { truth = planOf (claimOf (now (words .entry))) .matrix (now (counts .entry)); steps = 1 }) a ⌝ }
+    ensures { λ r. ⌜ r ≡ reply (record { truth = planOf (claimOf (now (words .entry))) .matrix (finals regions regions (now (counts .entry))); steps = 1 }) a ⌝ }
     ensures { λ _. ⌜ Kept (now (order .entry)) known (now (values .entry)) (now (values .exit)) ⌝ }
 {
     if a.left == 0 {
@@ -66,6 +83,7 @@ fn step(
         };
     }
     let rest = a.spend();
+    let stop = regions + regions;
     let truth = matrix::holds(
         words,
         patterns,
@@ -73,7 +91,7 @@ fn step(
         rows,
         root,
         size,
-        counts,
+        &counts[regions..stop],
         values,
         known,
     );
@@ -133,13 +151,13 @@ fn advance(
 
 // Split h and all after it, the inside count of each region tried from 0 up. The nodes before place `known` of the order stand already.
 pub fn splits(
-    counts: &mut [u32],
-    values: &mut [i32],
+    counts: &mut [u32; 128],
+    values: &mut [i32; 1024],
     words: &[i32],
-    patterns: &[u64],
-    order: &[usize],
-    kinds: &[u8],
-    upto: &[usize],
+    patterns: &[u64; 1024],
+    order: &[usize; 1024],
+    kinds: &[u8; 64],
+    upto: &[usize; 65],
     rows: usize,
     root: usize,
     size: u32,
@@ -151,28 +169,14 @@ pub fn splits(
     requires { ⌜ Prepared (now words) (now patterns) (now order) (length (now values)) size rows ⌝ }
     requires { ⌜ Has (now order) rows root × (root ≡ claimOf (now words) .root) ⌝ }
     requires { ⌜ Guided (claimOf (now words)) (now kinds) (now upto) (now patterns) (now order) (length (now counts)) rows regions ⌝ }
-    requires { ⌜ (0 < h) × (h ≤ regions) × Total (now counts) h size ⌝ }
+    requires { ⌜ (0 < h) × (h < regions) × Total (now counts) h size ⌝ }
     requires { ⌜ (known ≤ rows) × Known (claimOf (now words)) size (finals regions h (now counts)) (now order) known (now values) ⌝ }
     requires { ⌜ a .left + a .taken < 2 ^ 64 ⌝ }
     ensures { λ r. ⌜ r ≡ reply (rule (planOf (claimOf (now (words .entry)))) (regions - h) h (take (h + h) (now (counts .entry)))) a ⌝ }
     ensures { λ _. ⌜ take (h + h) (now (counts .exit)) ≡ take (h + h) (now (counts .entry)) ⌝ }
     ensures { λ _. ⌜ Kept (now (order .entry)) known (now (values .entry)) (now (values .exit)) ⌝ }
+    ensures { λ _. ⌜ (length (now (counts .exit)) ≡ length (now (counts .entry))) × (length (now (values .exit)) ≡ length (now (values .entry))) ⌝ }
 {
-    if h == regions {
-        let stop = h + h;
-        return step(
-            words,
-            patterns,
-            order,
-            rows,
-            root,
-            size,
-            &counts[h..stop],
-            values,
-            known,
-            a,
-        );
-    }
     let next = advance(
         words,
         patterns,
@@ -191,22 +195,39 @@ pub fn splits(
     let mut k = 0;
     while k <= whole {
         children(counts, h, k);
-        let x = splits(
-            counts,
-            values,
-            words,
-            patterns,
-            order,
-            kinds,
-            upto,
-            rows,
-            root,
-            size,
-            regions,
-            next,
-            h + 1,
-            rest,
-        );
+        let below = pass(counts, regions, h + 1);
+        let x = if below == regions {
+            step(
+                words,
+                patterns,
+                order,
+                rows,
+                root,
+                size,
+                regions,
+                counts,
+                values,
+                next,
+                rest,
+            )
+        } else {
+            splits(
+                counts,
+                values,
+                words,
+                patterns,
+                order,
+                kinds,
+                upto,
+                rows,
+                root,
+                size,
+                regions,
+                next,
+                below,
+                rest,
+            )
+        };
         if ends(some, x) {
             return x;
         }

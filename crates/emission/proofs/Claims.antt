@@ -11,7 +11,7 @@ use lib.Seq.{getD-take, length-take-le}
 use Rattle.checker.specs.declared.Shape.{Shape}
 use Rattle.checker.specs.declared.Sort.{Sort}
 use Rattle.checker.specs.declared.Checked.the-variants.{Accepted}
-use Rattle.checker.specs.Claim.{Node, unknown, Quantifier, intQ, Claim}
+use Rattle.checker.specs.Claim.{Node, unknown, intQ}
 use Rattle.checker.specs.Kinds.{number, quantifierOf}
 use Rattle.checker.specs.Words.{word, wordAt, nodesIn, quantifiersIn, nodeAt, quantifierAt, claimOf, fieldsOf, nodeWords, nodesWords, quantifierWord, trailer, wordsOf}
 use Rattle.checker.specs.Sorts as Sorts

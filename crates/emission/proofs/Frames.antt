@@ -1,7 +1,6 @@
 -- Laws of what the quantifiers give, as the code keeps it: one quantifier further, one entry of a plan, and how large the numbers get.
 -- Assumes nothing.
 use mathlib.Core.Path.{_≡_, refl, sym, ap, ap₂, _∙_}
-use mathlib.Core.Logic.{_⊎_, inl, inr}
 use mathlib.Core.Bool.{Bool, true, false}
 use mathlib.Core.List.{List, [], _∷_, _++_}
 use Prim.Native.Nat.{ℕ, zero, suc, _+_, _*_, _-_, _^_, _%_, _≤_, _<_}
@@ -19,10 +18,9 @@ use Rattle.checker.specs.Kinds.{number, quantifierOf}
 use Rattle.checker.specs.Sorts as Sorts
 use Rattle.checker.specs.Sorts.{isSetQ}
 use Rattle.checker.specs.Check.{maxQuantifiers, maxSets}
-use Rattle.region.specs.Regions.{dbl}
 use Rattle.region.proofs.Regions.{dbl-is}
 use Rattle.emission.specs.declared.Frame as code
-use Rattle.emission.specs.Emission.{Frame, size, regionNode, start, withNumber, withSet, inside, insideAll, emitQuantifiers}
+use Rattle.emission.specs.Emission.{Frame, regionNode, start, withNumber, withSet, inside, insideAll}
 use Rattle.emission.specs.Plan.{placeAt, placeIn, firstOf, Says, frameAt, Planned}
 use Rattle.emission.proofs.Lengths.{regions-power, next-is, quantifiers-length}
 use Rattle.emission.proofs.Steps.{inside-append}

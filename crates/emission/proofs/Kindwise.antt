@@ -4,23 +4,20 @@ use mathlib.Core.Path.{_≡_, refl, sym, ap, ap₂, _∙_, fun-ext}
 use mathlib.Core.Logic.{_⊎_, inl, inr}
 use mathlib.Core.Bool.{Bool, true, false, not, _&&_}
 use mathlib.Core.List.{List, [], _∷_}
-use Prim.Native.Nat.{ℕ, zero, suc, _+_, _*_, _-_, _≤_, _<_}
-use native.Mathlib.Nat.{le-trans}
+use Prim.Native.Nat.{ℕ, _+_, _*_, _-_, _≤_, _<_}
 use native.Mathlib.Omega.{arith}
 use lib.Dec.{ltb}
 use lib.IntN.{ℤ, pos}
 use lib.ListN.{length, getD, take}
 use lib.Seq.{length-take-le}
 use Rattle.checker.specs.declared.Shape.{Shape}
-use Rattle.checker.specs.declared.Sort.{Sort}
-use Rattle.checker.specs.declared.Sort.the-variants.{ASet, ATerm, AFormula}
 use Rattle.checker.specs.Claim.{Node, setVar, empty, whole, union, inter, compl, numVar, const, maxc, sum, diff, multiple, card, equal, less, divided, setEqual, subset, conj, disj, neg, unknown, Quantifier}
 use Rattle.checker.specs.Kinds.{number}
 use Rattle.checker.specs.Words.{word, wordAt, fields, fieldsOf, claimOf}
-use Rattle.checker.specs.Sorts.{sort, Is, Fits}
+use Rattle.checker.specs.Sorts.{Fits}
 use Rattle.checker.specs.Meaning.{Set}
 use Rattle.region.specs.Regions.{minus, covered}
-use Rattle.region.specs.Pattern.{patternBits, coversAt, regionsFrom}
+use Rattle.region.specs.Pattern.{patternBits, regionsFrom}
 use Rattle.region.proofs.Covered.{covered-within}
 use Rattle.region.proofs.Pattern.{covered-cut}
 use Rattle.emission.specs.declared.Frame as code

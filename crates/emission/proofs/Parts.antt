@@ -1,14 +1,14 @@
 -- The runs in the parts in which they are written.
 -- Assumes nothing.
-use mathlib.Core.Path.{_≡_, refl, sym, ap, _∙_}
+use mathlib.Core.Path.{_≡_, refl, ap, _∙_}
 use mathlib.Core.List.{List, [], _∷_, _++_, append-assoc}
-use Prim.Native.Nat.{ℕ, zero, suc, _+_, _*_, _-_, _≤_, _<_}
+use Prim.Native.Nat.{ℕ, _+_, _*_, _-_, _≤_, _<_}
 use native.Mathlib.Omega.{arith}
 use lib.IntN.{pos}
-use lib.ListN.{length, length-append}
-use Rattle.checker.specs.Claim.{Node, const, sum, equal, conj}
-use Rattle.emission.specs.Emission.{Place, regionNode, sumRun, cardRun, last, emptyRun, bothRun}
-use Rattle.emission.proofs.Lengths.{card-length, cardLength, empty-length}
+use lib.ListN.{length}
+use Rattle.checker.specs.Claim.{const, sum, equal, conj}
+use Rattle.emission.specs.Emission.{Place, regionNode, sumRun, cardRun, emptyRun, bothRun}
+use Rattle.emission.proofs.Lengths.{card-length, cardLength}
 
 -- ---- a cardinality; `at` and `next` are the nodes before and after a part
 

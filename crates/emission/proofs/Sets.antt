@@ -2,23 +2,23 @@
 -- Assumes nothing.
 use mathlib.Core.Path.{_≡_, refl, sym, ap, ap₂, _∙_, fun-ext}
 use mathlib.Core.Bool.{Bool, true, false, cond, not, _&&_, _||_}
-use mathlib.Core.List.{List, [], _∷_}
-use Prim.Native.Nat.{ℕ, zero, suc, _+_, _*_, _-_, _^_, _/_, _≤_, _<_}
+use mathlib.Core.List.{List, _∷_}
+use Prim.Native.Nat.{ℕ, suc, _+_, _*_, _-_, _^_, _≤_, _<_}
 use native.Mathlib.Omega.{arith}
 use lib.Dec.{ltb}
 use lib.IntN.{ℤ}
 use lib.ListN.{length, getD, take, drop}
 use Rattle.checker.specs.declared.Shape.{Shape}
 use Rattle.checker.specs.declared.Sort.the-variants.{ASet, ATerm, AFormula, NoSort}
-use Rattle.checker.specs.Claim.{Node, setVar, empty, whole, union, inter, compl, unknown, Quantifier, intQ, setQ, countQ}
+use Rattle.checker.specs.Claim.{Node, setVar, empty, whole, union, inter, compl, Quantifier, intQ, setQ, countQ}
 use Rattle.checker.specs.Kinds.{within, sortOf}
 use Rattle.checker.specs.Words.{wordAt, claimOf}
 use Rattle.checker.specs.Sorts as Sorts
-use Rattle.checker.specs.Sorts.{sort, Is, isSetQ, Binds, Fits}
+use Rattle.checker.specs.Sorts.{Is, isSetQ, Binds}
 use Rattle.checker.specs.Meaning.{Set}
 use Rattle.checker.proofs.Fitting.{sort-kind}
 use Rattle.checker.proofs.Sorts.{above}
-use Rattle.region.specs.Regions.{odd, minus, covered}
+use Rattle.region.specs.Regions.{minus, covered}
 use Rattle.region.specs.Pattern.{covers, patternBits, coversAt, regionsFrom, Put}
 use Rattle.emission.specs.declared.Frame as code
 use Rattle.emission.specs.Emission.{Frame, none, start, insideAll, patternOf}

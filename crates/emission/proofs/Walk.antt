@@ -1,8 +1,7 @@
 -- The emission node by node: what one more node adds, and what stands of the nodes before.
 -- Assumes nothing.
-use mathlib.Core.Path.{_≡_, refl, sym, ap, ap₂, _∙_}
-use mathlib.Core.Bool.{Bool, true, false, _&&_}
-use mathlib.Core.Logic.{⊎-elim}
+use mathlib.Core.Path.{_≡_, refl, sym, ap, _∙_}
+use mathlib.Core.Bool.{_&&_}
 use mathlib.Core.List.{List, [], _∷_, _++_}
 use Prim.Native.Nat.{ℕ, zero, suc, _+_, _-_, _≤_, _<_}
 use native.Mathlib.Nat.{le-refl, le-trans}
@@ -10,13 +9,13 @@ use native.Mathlib.Numerals.{add-one}
 use native.Mathlib.Omega.{arith}
 use borrow.Author.Count.{below-more}
 use lib.Dec.{ltb}
-use lib.ListN.{length, getD, take, drop, set, length-append, length-set, length-take, take-append-drop, List·getD-append}
+use lib.ListN.{length, getD, take, drop, set, length-append, length-set, take-append-drop, List·getD-append}
 use lib.Seq.{getD-at, getD-take, take-suc-set, take-length, length-take-le}
 use Rattle.checker.specs.declared.Sort.the-variants.{ASet}
 use Rattle.checker.specs.Claim.{Node, unknown, Claim}
 use Rattle.checker.specs.Sorts.{sort}
 use Rattle.checker.specs.Meaning.{Set}
-use Rattle.region.specs.Pattern.{coversAt, Put}
+use Rattle.region.specs.Pattern.{coversAt}
 use Rattle.emission.specs.Emission.{Frame, none, last, runOf, patternOf, Emitted, emitNode, emitNodes, body}
 use Rattle.emission.specs.Runs.{frameOf, emittedTo, runAt, Patterned, Standing}
 use Rattle.emission.proofs.Steps as Steps

@@ -1,5 +1,4 @@
 // The patterns of set nodes.
-ghost use mathlib.Core.Path.{_≡_};
 ghost use Prim.Native.Nat.{_+_, _≤_};
 ghost use Rattle.checker.specs.Words.{claimOf};
 ghost use Rattle.checker.specs.Check.{kindIn};

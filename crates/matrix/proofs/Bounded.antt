@@ -9,7 +9,7 @@ use borrow.Author.Tests.{ltb-false}
 use lib.IntN.{pos, natAbs}
 use lib.ListN.{length, getD, length-append}
 use Rattle.checker.specs.Claim.{Node, setVar, empty, whole, union, inter, compl, numVar, const, maxc, sum, diff, multiple, card, equal, less, divided, setEqual, subset, conj, disj, neg, unknown, Quantifier, intQ, setQ, countQ, Claim}
-use Rattle.checker.specs.Meaning.{Value, set, num, truth, asNum, numAt, World, valueOf, values}
+use Rattle.checker.specs.Meaning.{Value, truth, asNum, numAt, valueOf, values}
 use Rattle.checker.proofs.Search.{first-none}
 use Rattle.region.specs.Regions.{over, regions}
 use Rattle.region.proofs.Covered.{over-le}

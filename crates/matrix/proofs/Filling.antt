@@ -1,7 +1,7 @@
 -- The table of patterns, filled entry by entry: what is stored for a node is its entry. Assumes nothing.
-use mathlib.Core.Path.{_≡_, refl, sym, ap, ap₂, _∙_}
+use mathlib.Core.Path.{_≡_, refl, sym, ap, _∙_}
 use mathlib.Core.Bool.{Bool, true, false, not, xor, _&&_, _||_, false≢true}
-use mathlib.Core.List.{List, []}
+use mathlib.Core.List.{List}
 use Prim.Native.Nat.{ℕ, _+_, _^_, _≤_, _<_}
 use native.Mathlib.Omega.{arith}
 use borrow.Author.Tests.{eqb-true, eqb-false}
@@ -14,7 +14,6 @@ use Rattle.checker.specs.Claim.{Node, setVar, empty, whole, union, inter, compl
 use Rattle.checker.specs.Kinds.{number, sortTable, isSet, nodeOf}
 use Rattle.checker.specs.Sorts.{sort, sets, Is}
 use Rattle.checker.specs.Meaning.{Set, Value, truth, asSet, setAt, World, valueOf}
-use Rattle.region.specs.Regions.{minus}
 use Rattle.region.specs.Pattern.{coversAt, Put}
 use Rattle.matrix.specs.Final.{finalValues}
 use Rattle.matrix.specs.Entry.{entryOf, nodeValues, Filled, Beyond}

@@ -1,22 +1,22 @@
 -- What is known of the array of values: how it grows by a node, and how it stands while more regions are settled. Assumes nothing.
-use mathlib.Core.Path.{_≡_, refl, sym, ap, ap₂, subst, _∙_}
-use mathlib.Core.Bool.{Bool, true, false, _&&_}
+use mathlib.Core.Path.{_≡_, refl, sym, ap, subst, _∙_}
+use mathlib.Core.Bool.{Bool, true, false}
 use mathlib.Core.List.{List, [], _∷_, _++_, append-assoc, append-nil}
-use Prim.Native.Nat.{ℕ, zero, suc, _+_, _-_, _*_, _^_, _≤_, _<_, zero-le}
-use native.Mathlib.Nat.{le-refl, le-trans, le-of-eq, add-zero}
+use Prim.Native.Nat.{ℕ, _+_, _-_, _^_, _≤_, _<_, zero-le}
+use native.Mathlib.Nat.{le-trans, le-of-eq}
 use native.Mathlib.Omega.{arith}
 use borrow.Author.Tests.{eqb-true, eqb-false, le-ltb}
 use lib.Dec.{eqb}
 use lib.IntN.{ℤ, pos, natAbs}
-use lib.ListN.{length, getD, take, set, replicate, length-append, length-replicate, length-take}
+use lib.ListN.{length, getD, take, set}
 use lib.Seq.{getD-take, getD-set-same, getD-set-other, length-take-le}
 use Rattle.checker.specs.declared.Sort.{Sort}
 use Rattle.checker.specs.declared.Sort.the-variants.{ATerm, AFormula}
 use Rattle.checker.specs.Claim.{Node, setVar, empty, whole, union, inter, compl, numVar, const, maxc, sum, diff, multiple, card, equal, less, divided, setEqual, subset, conj, disj, neg, unknown, Quantifier, Claim}
-use Rattle.checker.specs.Words.{word, nodeAt, nodesIn, claimOf}
+use Rattle.checker.specs.Words.{word}
 use Rattle.checker.specs.Sorts.{sort, sets, Is, Fits, AllFit}
-use Rattle.checker.specs.Meaning.{Set, Value, truth, asNum, asTruth, truthAt, eqZ, World, valueOf, matrix}
-use Rattle.region.specs.Regions.{part, over, regions}
+use Rattle.checker.specs.Meaning.{Value, truth, asNum, asTruth, truthAt, eqZ, World, valueOf, matrix}
+use Rattle.region.specs.Regions.{over, regions}
 use Rattle.region.specs.Pattern.{coversAt}
 use Rattle.region.proofs.Covered.{over-same, over-cut}
 use Rattle.matrix.specs.Bound.{maxBound, firstOver}
@@ -24,7 +24,7 @@ use Rattle.matrix.specs.Final.{finalValues}
 use Rattle.matrix.specs.Entry.{entryOf, nodeValues, Filled}
 use Rattle.matrix.specs.Work.{children, Every, bitZ, says, work}
 use Rattle.matrix.specs.Order.{Has, Order}
-use Rattle.matrix.specs.Known.{Ready, shows, Shown, Counts, Open, Known, Settled, Kept, Workable}
+use Rattle.matrix.specs.Known.{shows, Shown, Counts, Known, Settled, Kept}
 use Rattle.checker.proofs.Fitting.{fits-at}
 use Rattle.matrix.proofs.Build.{build-at, values-build}
 use Rattle.matrix.proofs.Bounded.{value-small}

@@ -18,7 +18,7 @@ use Rattle.region.specs.Pattern.{patternBits, coversAt}
 use Rattle.region.proofs.Pattern.{regions-fit}
 use Rattle.matrix.specs.Entry.{Filled}
 use Rattle.matrix.specs.Work.{children, Every}
-use Rattle.matrix.specs.Order.{Has, Order}
+use Rattle.matrix.specs.Order.{Has}
 use Rattle.matrix.specs.Arranged.{marked, Closed, Reach, Placed, Placeable, Passed, Ranked}
 use Rattle.matrix.specs.Known.{Scheduled}
 use Rattle.matrix.proofs.Known.{children-below}

@@ -4,7 +4,7 @@ use mathlib.Core.Bool.{Bool}
 use mathlib.Core.List.{List, [], _∷_, _++_}
 use Prim.Native.Nat.{ℕ, _+_, _*_}
 use lib.Dec.{ltb}
-use lib.IntN.{ℤ, natAbs}
+use lib.IntN.{natAbs}
 use lib.ListN.{length, getD}
 use Rattle.checker.specs.Claim.{Node, setVar, empty, whole, union, inter, compl, numVar, const, maxc, sum, diff, multiple, card, equal, less, divided, setEqual, subset, conj, disj, neg, unknown, Claim}
 use Rattle.checker.specs.Search.{first}

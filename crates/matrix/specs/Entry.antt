@@ -1,7 +1,7 @@
 -- The table of patterns, one entry a node (01, "Regions"): which regions each entry covers, so that a value asks only how many ports are there.
 -- Assumes nothing.
 use mathlib.Core.Path.{_≡_}
-use mathlib.Core.Bool.{Bool, true, false, not, xor, _&&_, _||_}
+use mathlib.Core.Bool.{true, false, not, xor, _&&_, _||_}
 use mathlib.Core.List.{List, []}
 use Prim.Native.Nat.{ℕ, _<_, _≤_, _^_}
 use lib.Dec.{ltb}

@@ -1,7 +1,7 @@
 -- The quantifiers' values over the final regions (01, "Regions"): the outermost set is the highest bit of a final region's number.
 -- Assumes nothing.
 use mathlib.Core.List.{List, [], _∷_}
-use Prim.Native.Nat.{ℕ, _/_, _^_}
+use Prim.Native.Nat.{_/_, _^_}
 use lib.IntN.{pos}
 use Rattle.checker.specs.Claim.{Quantifier, intQ, setQ, countQ}
 use Rattle.checker.specs.Sorts.{sets}

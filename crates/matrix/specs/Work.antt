@@ -5,7 +5,6 @@ use mathlib.Core.List.{List, [], _∷_}
 use Prim.Native.Nat.{ℕ}
 use lib.Dec.{eqb}
 use lib.IntN.{ℤ, pos, _+ℤ_, _-ℤ_, _*ℤ_}
-use lib.ListN.{getD}
 use lib.Signed.{ltZ}
 use Rattle.checker.specs.Claim.{Node, setVar, empty, whole, union, inter, compl, numVar, const, maxc, sum, diff, multiple, card, equal, less, divided, setEqual, subset, conj, disj, neg, unknown}
 use Rattle.checker.specs.Words.{word}

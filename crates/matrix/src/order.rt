@@ -1,18 +1,17 @@
 // The order in which nodes are worked out: those that the root needs, children first, and among them those first that few regions settle.
 ghost use mathlib.Core.Path.{_≡_};
-ghost use mathlib.Core.Bool.{Bool, true, false};
+ghost use mathlib.Core.Bool.{true, false};
 ghost use mathlib.Core.List.{[], _∷_};
 ghost use Prim.Native.Nat.{ℕ, _+_, _*_, _^_, _≤_, _<_};
 ghost use lib.ListN.{length, getD};
 ghost use Rattle.checker.specs.declared.Checked.the-variants.{Accepted};
 ghost use Rattle.checker.specs.Words.{nodeAt, claimOf};
 ghost use Rattle.checker.specs.Check.{maxSets, checkOf};
-ghost use Rattle.region.specs.Pattern.{coversAt};
 ghost use Rattle.matrix.specs.Entry.{Filled};
 ghost use Rattle.matrix.specs.Work.{children, Every};
 ghost use Rattle.matrix.specs.Order.{Has, Order};
 ghost use Rattle.matrix.specs.Arranged.{listed, marked, Marked, Closed, Reach, Placed, Placeable, Passed, Ranked};
-ghost use Rattle.matrix.specs.Known.{Settled, Scheduled};
+ghost use Rattle.matrix.specs.Known.{Scheduled};
 use checker::Shape;
 
 // The nodes whose numbers a node's own is worked out from: none, the first, or both.

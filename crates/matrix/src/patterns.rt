@@ -1,8 +1,7 @@
 // The table of patterns: one entry a node, filled once.
 ghost use mathlib.Core.Path.{_≡_};
 ghost use mathlib.Core.Bool.{true};
-ghost use Prim.Native.Nat.{ℕ, _+_, _*_, _≤_, _<_};
-ghost use lib.Dec.{eqb};
+ghost use Prim.Native.Nat.{_+_, _*_, _≤_, _<_};
 ghost use lib.ListN.{length, getD, drop};
 ghost use Rattle.checker.specs.declared.Checked.the-variants.{Accepted};
 ghost use Rattle.checker.specs.Claim.{intQ};

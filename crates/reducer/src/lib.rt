@@ -1,6 +1,5 @@
 // The reducer: a claim is emitted as a counting claim, which has no sets and is true at the same sizes.
 ghost use mathlib.Core.Path.{_≡_};
-ghost use Prim.Native.Nat.{ℕ};
 ghost use lib.ListN.{length};
 ghost use Rattle.checker.specs.Claim.{Claim};
 ghost use Rattle.checker.specs.Words.{claimOf};

@@ -4,7 +4,7 @@ use Prim.Native.Nat.{ℕ, _+_, _-_, _^_, _≤_, zero-le}
 use native.Mathlib.Nat.{add-zero, pow-le-pow-right}
 use native.Mathlib.Omega.{arith}
 use lib.IntN.{ℤ}
-use lib.ListN.{length}
+use lib.ListN.{length, take}
 use lib.Pow.{pow-pos}
 use Rattle.checker.specs.Claim.{Claim}
 use Rattle.checker.specs.Words.{claimOf}
@@ -15,12 +15,15 @@ use Rattle.region.specs.Regions.{over}
 use Rattle.matrix.specs.Bound.{overBound}
 use Rattle.matrix.specs.Entry.{Filled}
 use Rattle.matrix.specs.Order.{Has, Order}
-use Rattle.matrix.specs.Known.{Ready, Scheduled}
+use Rattle.matrix.specs.Known.{Counts, Ready, Scheduled}
 use Rattle.matrix.proofs.Known.{known-none}
 use Rattle.decider.specs.Rule.{rule}
 use Rattle.decider.specs.Plan.{planOf, ruling}
 use Rattle.decider.specs.Answer.{reply}
+use Rattle.decider.specs.Standing.{Total, finals, Prepared, Guided}
+use Rattle.decider.proofs.Heap.{leaf}
 use Rattle.decider.proofs.Levels.{sets-all}
+use Rattle.decider.proofs.Settling.{finals-counts}
 use Rattle.decider.proofs.Admitted.{Admitted, admitted}
 use Rattle.decider.proofs.Shapes.{Shaped, shaped}
 use borrow.Author.Needs.{needs}
@@ -91,6 +94,58 @@ module _ (z : tie.After-fill-kinds) where
   small : regions ≤ 64
   small = omega (arith, few start, z .fill-kinds .ensures .0)
 
+-- once the regions without ports are passed over, from the first on
+module _ (y : tie.After-pass) where
+  abbrev z : tie.After-fill-kinds
+  z = y .before .before .before
+
+  abbrev s : tie.Start
+  s = start z
+
+  abbrev h : ℕ
+  h = y .pass .result
+
+  abbrev m : List ℕ
+  m = y .pass .last .0
+
+  abbrev size : ℕ
+  size = s .args .size
+
+  total : Total m h size
+  unfolding over
+  total = y .pass .ensures .total size (add-zero size)
+
+  begun : ruling size (claim s) ≡ rule (planOf (claim s)) (regions z - h) h (take (h + h) m)
+  unfolding ruling
+  begun = ap (λ n. rule (planOf (claim s)) (n - 1) 1 (0 ∷ size ∷ [])) (sym (z .fill-kinds .ensures .0)) ∙ y .pass .ensures .ruled (claim s)
+
+  prepared : Prepared (ws s) (patterns z) (order z) 1024 size (rows z)
+  prepared =
+      record {
+        ready = ready-claim s;
+        filled = filled z;
+        ordered = ordered z;
+        roomy = omega (arith, shape s .few-nodes, shape s .nodes-listed);
+        small = granted s .small;
+      }
+
+  rooted : Has (order z) (rows z) (s .args .shape .root) × (s .args .shape .root ≡ claim s .root)
+  rooted = (subst (Has (order z) (rows z)) (sym (shape s .root-is)) (z .before .before .before .before .arrange .ensures .0 .1), shape s .root-is)
+
+  room : regions z + regions z ≤ length m
+  room = omega (arith, small z, y .pass .kept .0)
+
+  guided : Guided (claim s) (kinds z) (upto z) (patterns z) (order z) (length m) (rows z) (regions z)
+  guided =
+      record {
+        final = z .fill-kinds .ensures .0;
+        few = small z;
+        roomy = room;
+        long = (omega (arith, small z, z .fill-kinds .kept .1 .1 .0), omega (arith, small z, z .before .before .before .before .arrange .kept .1 .1 .1 .1 .0));
+        quantified = z .fill-kinds .ensures .1;
+        scheduled = subst (λ k. Scheduled (patterns z) k (order z) (rows z) (upto z)) (final z) (z .before .before .before .before .arrange .ensures .1);
+      }
+
 slice-aggregate-prepare : tie.Need-slice-aggregate-prepare
 slice-aggregate-prepare c = search needs
 
@@ -122,60 +177,73 @@ fill-kinds-requires c κs =
 array-write-counts : tie.Need-array-write-counts
 array-write-counts c = search needs
 
-slice-aggregate-splits : tie.Need-slice-aggregate-splits
-slice-aggregate-splits c = search needs
+slice-aggregate-pass : tie.Need-slice-aggregate-pass
+slice-aggregate-pass c = search needs
 
-slice-aggregate-splits-2 : tie.Need-slice-aggregate-splits-2
-slice-aggregate-splits-2 c = search needs
+pass-requires : tie.Need-pass-requires
+pass-requires c κs =
+    let z = c .before .before in
+    (omega arith, omega (arith, z .fill-kinds .ensures .0, pow-pos (sets (claim (start z) .quantifiers))), omega (arith, small z))
 
-slice-aggregate-splits-3 : tie.Need-slice-aggregate-splits-3
-slice-aggregate-splits-3 c = search needs
+slice-aggregate-step : tie.Need-slice-aggregate-step
+slice-aggregate-step c = search needs
 
-slice-aggregate-splits-4 : tie.Need-slice-aggregate-splits-4
-slice-aggregate-splits-4 c = search needs
+slice-aggregate-step-2 : tie.Need-slice-aggregate-step-2
+slice-aggregate-step-2 c = search needs
 
-slice-aggregate-splits-5 : tie.Need-slice-aggregate-splits-5
-slice-aggregate-splits-5 c = search needs
+slice-aggregate-step-3 : tie.Need-slice-aggregate-step-3
+slice-aggregate-step-3 c = search needs
 
-slice-aggregate-splits-6 : tie.Need-slice-aggregate-splits-6
-slice-aggregate-splits-6 c = search needs
+slice-aggregate-step-4 : tie.Need-slice-aggregate-step-4
+slice-aggregate-step-4 c = search needs
 
-splits-requires : tie.Need-splits-requires
-unfolding over
-splits-requires c κs =
-    let z = c .before .before .before .before .before .before .before in
-    let s = start z in
-    let arranged = z .before .before .before .before .arrange in (
-      record {
-        ready = ready-claim s;
-        filled = filled z;
-        ordered = ordered z;
-        roomy = omega (arith, shape s .few-nodes, shape s .nodes-listed);
-        small = granted s .small;
-      },
+step-requires : tie.Need-step-requires
+step-requires c κs =
+    let y = c .before .before .before .before .before .before in
+    let s = s y in
+    let same = c .before .before .before .before .if1 .taken in
+    let R = regions (z y) in (
+      prepared y,
       (
-        (subst (Has (order z) (rows z)) (sym (shape s .root-is)) (arranged .ensures .0 .1), shape s .root-is),
+        rooted y,
         (
-          record {
-            final = z .fill-kinds .ensures .0;
-            roomy = omega (arith, small z);
-            long = (omega (arith, small z, z .fill-kinds .kept .1 .1 .0), omega (arith, small z, arranged .kept .1 .1 .1 .1 .0));
-            quantified = z .fill-kinds .ensures .1;
-            scheduled = subst (λ m. Scheduled (patterns z) m (order z) (rows z) (upto z)) (final z) (arranged .ensures .1);
-          },
           (
-            (omega arith, omega (arith, z .fill-kinds .ensures .0, pow-pos (sets (claim s .quantifiers))), add-zero (s .args .size)),
-            ((zero-le, known-none (claim s) (s .args .size) (order z) 0 _ _), s .pre .1),
+            room y,
+            subst (Counts (claim s) (size y)) (ap (λ n. finals R n (m y)) same)
+                (finals-counts (m y) (h y) R (claim s) (size y) same (omega (arith, room y)) (z y .fill-kinds .ensures .0) (total y)),
           ),
+          ((zero-le, known-none (claim s) (size y) (order (z y)) 0 _ _), s .pre .1),
         ),
       ),
     )
 
 returns : tie.Need-returns
-unfolding ruling
 returns c =
-    let z = c .before .before .before .before .before .before .before .before .before .before in
-    c .before .before .splits .ensures .0 ∙ ap (λ n. reply (rule (planOf (claim (start z))) (n - 1) 1 (0 ∷ start z .args .size ∷ [])) (start z .args .a)) (z .fill-kinds .ensures .0)
+    let y = c .before .before .before .before .before .before .before .before in
+    let same = c .before .before .before .before .before .before .if1 .taken in
+    c .before .step .ensures .0 ∙ ap (λ r. reply r (s y .args .a)) (sym (begun y ∙ leaf (planOf (claim (s y))) (regions (z y)) (h y) (m y) same))
+
+splits-requires : tie.Need-splits-requires
+splits-requires c κs =
+    let y = c .before .before .before .before .before .before .before .before in
+    let passed = y .pass .ensures in (
+      prepared y,
+      (
+        rooted y,
+        (
+          guided y,
+          (
+            (omega (arith, passed .from), omega (arith, passed .upto, c .before .before .before .before .before .before .if1 .left), total y),
+            ((zero-le, known-none (claim (s y)) (size y) (order (z y)) 0 _ _), s y .pre .1),
+          ),
+        ),
+      ),
+    )
+
+returns-2 : tie.Need-returns-2
+returns-2 c =
+    let y = c .before .before .before .before .before .before .before .before .before in
+    c .splits .ensures .0 ∙ ap (λ r. reply r (s y .args .a)) (sym (begun y))
 
 pub rule-on-spec : {M : Type 1} → statement M
 rule-on-spec =
@@ -190,11 +258,13 @@ rule-on-spec =
     slice-aggregate-fill-kinds
     fill-kinds-requires
     array-write-counts
-    slice-aggregate-splits
-    slice-aggregate-splits-2
-    slice-aggregate-splits-3
-    slice-aggregate-splits-4
-    slice-aggregate-splits-5
-    slice-aggregate-splits-6
+    slice-aggregate-pass
+    pass-requires
+    slice-aggregate-step
+    slice-aggregate-step-2
+    slice-aggregate-step-3
+    slice-aggregate-step-4
+    step-requires
+    returns
     splits-requires
-    returns)
+    returns-2)

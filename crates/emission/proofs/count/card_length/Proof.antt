@@ -1,13 +1,11 @@
-use mathlib.Core.Path.{_≡_, sym, ap, _∙_}
-use Prim.Native.Nat.{ℕ, _*_, _-_, _<_}
+use mathlib.Core.Path.{sym, ap}
+use Prim.Native.Nat.{_-_, _<_}
 use native.Mathlib.Omega.{arith}
 use lib.ListN.{length}
 use Rattle.emission.proofs.Parts.{card-none, card-size}
 use borrow.Author.Needs.{needs}
 use Rattle.emission.proofs.count.card_length.Statement.{statement}
 use Rattle.emission.proofs.count.card_length.Tie as tie
-use Rattle.emission.proofs.count.card_length.Reads as reads
-use Rattle.emission.proofs.count.card_length.Lts as lts
 
 returns : tie.Need-returns
 returns c = (λ p at rs e. sym (ap length (card-none p at rs (omega (arith, c .if1 .taken)))), omega arith)

@@ -1,12 +1,12 @@
 use mathlib.Core.Path.{_≡_, refl, sym, ap, _∙_}
 use mathlib.Core.List.{List}
-use Prim.Native.Nat.{ℕ, _+_, _*_, _≤_, _<_}
+use Prim.Native.Nat.{ℕ, _+_, _*_, _<_}
 use native.Mathlib.Omega.{arith}
 use lib.ListN.{length}
 use Rattle.checker.specs.Words.{wordAt, claimOf}
 use Rattle.emission.specs.Emission.{Place}
 use Rattle.emission.specs.Plan.{placeIn, frameAt}
-use Rattle.emission.specs.Runs.{emittedTo, Single, without}
+use Rattle.emission.specs.Runs.{emittedTo, without}
 use Rattle.emission.proofs.Lengths.{empty-length, both-length}
 use Rattle.emission.proofs.Frames.{says-all}
 use Rattle.emission.proofs.Ready.{known, few}
@@ -15,13 +15,6 @@ use Rattle.emission.proofs.Kindwise.{other-kind, run-none, run-single, 
 use borrow.Author.Needs.{needs}
 use Rattle.emission.proofs.count.run_length.Statement.{statement}
 use Rattle.emission.proofs.count.run_length.Tie as tie
-use Rattle.emission.proofs.count.run_length.Reads as reads
-use Rattle.emission.proofs.count.run_length.Lts as lts
-use Rattle.checker.proofs.word.Reads as word-reads
-use Rattle.emission.proofs.count.card_length.Reads as card-length-reads
-use Rattle.emission.proofs.count.within_length.Reads as within-length-reads
-use Rattle.emission.proofs.pattern.put_pattern.Reads as put-pattern-reads
-use Rattle.region.proofs.size.Reads as size-reads
 
 apart : {x i : ℕ} → x < i → x ≡ i → ⊥
 apart h e = omega arith

@@ -1,4 +1,4 @@
-use mathlib.Core.Path.{_≡_, sym, ap, _∙_}
+use mathlib.Core.Path.{ap, _∙_}
 use native.Mathlib.Omega.{arith}
 use lib.ListN.{length}
 use Rattle.emission.specs.Runs.{without}
@@ -7,11 +7,6 @@ use Rattle.emission.proofs.Sets.{spared-put, difference-regions}
 use borrow.Author.Needs.{needs}
 use Rattle.emission.proofs.count.within_length.Statement.{statement}
 use Rattle.emission.proofs.count.within_length.Tie as tie
-use Rattle.emission.proofs.count.within_length.Reads as reads
-use Rattle.emission.proofs.count.within_length.Lts as lts
-use Rattle.emission.proofs.count.card_length.Reads as card-length-reads
-use Rattle.region.proofs.put_difference.Reads as put-difference-reads
-use Rattle.region.proofs.size.Reads as size-reads
 
 put-difference-requires : tie.Need-put-difference-requires
 put-difference-requires c κs = search needs

@@ -10,10 +10,6 @@ use Rattle.emission.proofs.Claims.{sound}
 use Rattle.emission.proofs.Walk.{nodes-next, stands-here, stands-before, patterned-none, emitted-none, root-is, body-is}
 use Rattle.emission.proofs.nodes.count.Statement.{statement}
 use Rattle.emission.proofs.nodes.count.Tie as tie
-use Rattle.emission.proofs.nodes.count.Reads as reads
-use Rattle.emission.proofs.nodes.count.Lts as lts
-use Rattle.emission.proofs.count.run_length.Reads as run-length-reads
-use Rattle.emission.proofs.nodes.preceding.Reads as preceding-reads
 
 abbrev Inv-loop : tie.InvT-loop
 Inv-loop words shape plan nodes root patterns₀ at₀ stands₀ i₀ patterns at stands i =

@@ -12,10 +12,6 @@ use Rattle.emission.proofs.Walk.{nodes-next, emitted-within, patterned-
 use Rattle.emission.proofs.Writing.{nodes-after, nodes-long, nodes-none, nodes-then, room-after}
 use Rattle.emission.proofs.nodes.put_all.Statement.{statement}
 use Rattle.emission.proofs.nodes.put_all.Tie as tie
-use Rattle.emission.proofs.nodes.put_all.Reads as reads
-use Rattle.emission.proofs.nodes.put_all.Lts as lts
-use Rattle.emission.proofs.nodes.preceding.Reads as preceding-reads
-use Rattle.emission.proofs.run.put_run.Reads as put-run-reads
 
 abbrev Inv-loop : tie.InvT-loop
 Inv-loop words shape plan out₀ nodes patterns₀ stands₀ at₀ i₀ out patterns stands at i =

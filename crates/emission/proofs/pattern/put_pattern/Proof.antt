@@ -1,24 +1,10 @@
-use mathlib.Core.Path.{_≡_, sym, ap, _∙_}
-use Prim.Native.Nat.{ℕ, _+_, _*_, _≤_, _<_}
+use mathlib.Core.Path.{sym, _∙_}
 use native.Mathlib.Omega.{arith}
-use Rattle.checker.specs.Words.{wordAt}
-use Rattle.checker.specs.Check.{kindIn}
-use Rattle.emission.specs.Runs.{Ready}
 use Rattle.emission.proofs.Ready.{known, few}
 use Rattle.emission.proofs.Sets.{some-sets, variable-child, level-at, union-children, inter-children, compl-child, last-set, set-variable, set-empty, set-whole, set-union, set-inter, set-compl}
 use borrow.Author.Needs.{needs}
 use Rattle.emission.proofs.pattern.put_pattern.Statement.{statement}
 use Rattle.emission.proofs.pattern.put_pattern.Tie as tie
-use Rattle.emission.proofs.pattern.put_pattern.Reads as reads
-use Rattle.emission.proofs.pattern.put_pattern.Lts as lts
-use Rattle.checker.proofs.word.Reads as word-reads
-use Rattle.emission.proofs.plan.frame_at.Reads as frame-at-reads
-use Rattle.region.proofs.put_complement.Reads as put-complement-reads
-use Rattle.region.proofs.put_empty.Reads as put-empty-reads
-use Rattle.region.proofs.put_intersection.Reads as put-intersection-reads
-use Rattle.region.proofs.put_union.Reads as put-union-reads
-use Rattle.region.proofs.put_variable.Reads as put-variable-reads
-use Rattle.region.proofs.put_whole.Reads as put-whole-reads
 
 mul-word : tie.Need-mul-word
 mul-word c = omega (arith, few (c .before .before .pre .0))

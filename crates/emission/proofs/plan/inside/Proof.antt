@@ -1,4 +1,4 @@
-use mathlib.Core.Path.{_≡_, ap}
+use mathlib.Core.Path.{ap}
 use mathlib.Core.Logic.{⊎-elim}
 use Prim.Native.Nat.{ℕ, _+_}
 use native.Mathlib.Omega.{arith}
@@ -9,8 +9,6 @@ use Rattle.emission.proofs.Frames.{shifted, says-set, says-number, kind
 use borrow.Author.Needs.{needs}
 use Rattle.emission.proofs.plan.inside.Statement.{statement}
 use Rattle.emission.proofs.plan.inside.Tie as tie
-use Rattle.emission.proofs.plan.inside.Reads as reads
-use Rattle.emission.proofs.plan.inside.Lts as lts
 
 -- src/plan.rt:31:27
 shl-t7 : tie.Need-shl-t7

@@ -1,23 +1,16 @@
-use mathlib.Core.Path.{_≡_, refl, sym, ap, _∙_}
 use mathlib.Core.Bool.{true}
-use Prim.Native.Nat.{ℕ, _+_, _*_, _-_, _≤_, _<_}
+use Prim.Native.Nat.{_+_, _*_, _-_, _≤_, _<_}
 use native.Mathlib.Omega.{arith}
 use borrow.Author.Needs.{needs}
-use lib.ListN.{length, take, drop}
-use lib.Seq.{length-sets, take-length}
-use Rattle.checker.specs.Claim.{Quantifier, intQ}
+use lib.ListN.{length, take}
+use Rattle.checker.specs.Claim.{intQ}
 use Rattle.checker.specs.Words.{claimOf}
-use Rattle.emission.specs.Plan.{Says, frameAt}
+use Rattle.emission.specs.Plan.{Says}
 use Rattle.emission.proofs.Claims.{sound, quantifier-at}
 use Rattle.emission.proofs.Steps.{next-taken}
 use Rattle.emission.proofs.Frames.{says-none, says-small, Noted, noted-none, noted-more}
 use Rattle.emission.proofs.plan.make.Statement.{statement}
 use Rattle.emission.proofs.plan.make.Tie as tie
-use Rattle.emission.proofs.plan.make.Reads as reads
-use Rattle.emission.proofs.plan.make.Lts as lts
-use Rattle.checker.proofs.word.Reads as word-reads
-use Rattle.emission.proofs.plan.inside.Reads as inside-reads
-use Rattle.emission.proofs.plan.put_frame.Reads as put-frame-reads
 
 abbrev Inv-loop : tie.InvT-loop
 Inv-loop words plan₀ start quantifiers frame₀ j₀ plan frame j =

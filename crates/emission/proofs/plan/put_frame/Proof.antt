@@ -4,8 +4,6 @@ use lib.ListN.{length-set}
 use borrow.Author.Needs.{needs}
 use Rattle.emission.proofs.plan.put_frame.Statement.{statement}
 use Rattle.emission.proofs.plan.put_frame.Tie as tie
-use Rattle.emission.proofs.plan.put_frame.Reads as reads
-use Rattle.emission.proofs.plan.put_frame.Lts as lts
 
 -- src/plan.rt:48:13
 mul-i : tie.Need-mul-i

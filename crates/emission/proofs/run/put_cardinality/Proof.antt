@@ -1,11 +1,11 @@
-use mathlib.Core.Path.{_≡_, refl, sym, ap, _∙_}
-use Prim.Native.Nat.{ℕ, _+_, _*_, _-_, _≤_, _<_}
+use mathlib.Core.Path.{_≡_, ap, _∙_}
+use Prim.Native.Nat.{_*_, _-_, _≤_, _<_}
 use native.Mathlib.Omega.{arith}
 use lib.IntN.{pos}
 use lib.ListN.{length}
 use Rattle.checker.specs.Claim.{const}
 use Rattle.region.specs.Pattern.{regionsFrom}
-use Rattle.emission.specs.Emission.{sumRun, cardRun}
+use Rattle.emission.specs.Emission.{sumRun}
 use Rattle.emission.specs.Plan.{placeIn}
 use Rattle.emission.specs.Write.{Room}
 use Rattle.emission.proofs.Parts.{card-none, card-first, card-size, card-least, sum-next, sum-none}
@@ -13,13 +13,6 @@ use Rattle.emission.proofs.Writing.{as-node, nodes-after, nodes-long, n
 use borrow.Author.Needs.{needs}
 use Rattle.emission.proofs.run.put_cardinality.Statement.{statement}
 use Rattle.emission.proofs.run.put_cardinality.Tie as tie
-use Rattle.emission.proofs.run.put_cardinality.Reads as reads
-use Rattle.emission.proofs.run.put_cardinality.Lts as lts
-use Rattle.emission.proofs.run.put_summand.Reads as put-summand-reads
-use Rattle.emission.proofs.write.put_node.Reads as put-node-reads
-use Rattle.emission.proofs.write.put_region.Reads as put-region-reads
-use Rattle.region.proofs.next.Reads as next-reads
-use Rattle.region.proofs.size.Reads as size-reads
 
 abbrev Inv-loop : tie.InvT-loop
 Inv-loop patterns i frame out₀ at n first here₀ from₀ left₀ out here from left =

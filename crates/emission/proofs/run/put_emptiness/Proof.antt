@@ -1,9 +1,8 @@
-use mathlib.Core.Path.{_≡_, refl, sym, ap, _∙_}
+use mathlib.Core.Path.{refl}
 use mathlib.Core.List.{List}
-use Prim.Native.Nat.{ℕ, _+_, _-_}
+use Prim.Native.Nat.{ℕ, _-_}
 use native.Mathlib.Omega.{arith}
 use lib.IntN.{pos}
-use lib.ListN.{length}
 use Rattle.checker.specs.Claim.{const, equal}
 use Rattle.region.specs.Pattern.{regionsFrom}
 use Rattle.emission.specs.Plan.{placeIn}
@@ -13,10 +12,6 @@ use Rattle.emission.proofs.Writing.{as-node, nodes-after, nodes-then, r
 use borrow.Author.Needs.{needs}
 use Rattle.emission.proofs.run.put_emptiness.Statement.{statement}
 use Rattle.emission.proofs.run.put_emptiness.Tie as tie
-use Rattle.emission.proofs.run.put_emptiness.Reads as reads
-use Rattle.emission.proofs.run.put_emptiness.Lts as lts
-use Rattle.emission.proofs.run.put_cardinality.Reads as put-cardinality-reads
-use Rattle.emission.proofs.write.put_node.Reads as put-node-reads
 
 put-cardinality-requires : tie.Need-put-cardinality-requires
 put-cardinality-requires c κs =

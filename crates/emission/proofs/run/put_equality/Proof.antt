@@ -14,10 +14,6 @@ use Rattle.emission.proofs.Writing.{as-node, nodes-after, nodes-then, r
 use borrow.Author.Needs.{needs}
 use Rattle.emission.proofs.run.put_equality.Statement.{statement}
 use Rattle.emission.proofs.run.put_equality.Tie as tie
-use Rattle.emission.proofs.run.put_equality.Reads as reads
-use Rattle.emission.proofs.run.put_equality.Lts as lts
-use Rattle.emission.proofs.run.put_within.Reads as put-within-reads
-use Rattle.emission.proofs.write.put_node.Reads as put-node-reads
 
 apart : {x i : ℕ} → x < i → x ≡ i → ⊥
 apart h e = omega arith

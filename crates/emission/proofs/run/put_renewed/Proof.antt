@@ -1,9 +1,7 @@
-use mathlib.Core.Path.{_≡_, refl, sym, ap, _∙_}
+use mathlib.Core.Path.{_≡_, sym, _∙_}
 use mathlib.Core.Logic.{_⊎_, inl, inr, ⊎-elim}
-use Prim.Native.Nat.{ℕ, _+_, _*_, _≤_, _<_}
+use Prim.Native.Nat.{ℕ, _+_, _*_}
 use native.Mathlib.Omega.{arith}
-use lib.IntN.{pos}
-use lib.ListN.{length, getD}
 use Rattle.checker.specs.Claim.{numVar, const, maxc, neg}
 use Rattle.checker.specs.Words.{word, wordAt, claimOf}
 use Rattle.emission.specs.Runs.{Single}
@@ -14,13 +12,6 @@ use Rattle.emission.proofs.Writing.{said, as-node, as-fields}
 use borrow.Author.Needs.{needs}
 use Rattle.emission.proofs.run.put_renewed.Statement.{statement}
 use Rattle.emission.proofs.run.put_renewed.Tie as tie
-use Rattle.emission.proofs.run.put_renewed.Reads as reads
-use Rattle.emission.proofs.run.put_renewed.Lts as lts
-use Rattle.checker.proofs.word.Reads as word-reads
-use Rattle.emission.proofs.plan.frame_at.Reads as frame-at-reads
-use Rattle.emission.proofs.write.put_node.Reads as put-node-reads
-use Rattle.emission.proofs.write.put_words.Reads as put-words-reads
-use Rattle.emission.proofs.write.word.Reads as write-word-reads
 
 -- the kinds of the arms with more than one
 either : {k m : ℕ} → k ≡ m → (k ≡ 15) ⊎ (k ≡ 22) → (m ≡ 15) ⊎ (m ≡ 22)

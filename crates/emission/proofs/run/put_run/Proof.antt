@@ -1,10 +1,7 @@
-use mathlib.Core.Path.{_≡_, refl, sym, ap, _∙_}
-use mathlib.Core.List.{List}
-use Prim.Native.Nat.{ℕ, _+_, _*_, _≤_, _<_}
-use native.Mathlib.Nat.{le-refl}
+use mathlib.Core.Path.{_≡_, sym, _∙_}
+use Prim.Native.Nat.{_*_}
 use native.Mathlib.Omega.{arith}
-use lib.ListN.{length}
-use Rattle.checker.specs.Words.{wordAt, claimOf}
+use Rattle.checker.specs.Words.{wordAt}
 use Rattle.emission.proofs.Frames.{says-all, first-small}
 use Rattle.emission.proofs.Ready.{known, few}
 use Rattle.emission.proofs.Sets.{spared-none, spared-next}
@@ -13,15 +10,6 @@ use Rattle.emission.proofs.Writing.{nodes-none}
 use borrow.Author.Needs.{needs}
 use Rattle.emission.proofs.run.put_run.Statement.{statement}
 use Rattle.emission.proofs.run.put_run.Tie as tie
-use Rattle.emission.proofs.run.put_run.Reads as reads
-use Rattle.emission.proofs.run.put_run.Lts as lts
-use Rattle.checker.proofs.word.Reads as word-reads
-use Rattle.emission.proofs.pattern.put_pattern.Reads as put-pattern-reads
-use Rattle.emission.proofs.plan.frame_at.Reads as frame-at-reads
-use Rattle.emission.proofs.run.put_cardinality.Reads as put-cardinality-reads
-use Rattle.emission.proofs.run.put_equality.Reads as put-equality-reads
-use Rattle.emission.proofs.run.put_renewed.Reads as put-renewed-reads
-use Rattle.emission.proofs.run.put_within.Reads as put-within-reads
 
 mul-word : tie.Need-mul-word
 mul-word c = omega (arith, few (c .before .before .before .pre .0 .0))

@@ -6,10 +6,6 @@ use Rattle.emission.proofs.Writing.{as-node, nodes-then, room-after}
 use borrow.Author.Needs.{needs}
 use Rattle.emission.proofs.run.put_summand.Statement.{statement}
 use Rattle.emission.proofs.run.put_summand.Tie as tie
-use Rattle.emission.proofs.run.put_summand.Reads as reads
-use Rattle.emission.proofs.run.put_summand.Lts as lts
-use Rattle.emission.proofs.write.put_node.Reads as put-node-reads
-use Rattle.emission.proofs.write.put_region.Reads as put-region-reads
 
 -- src/run.rt:23:9
 put-region-requires : tie.Need-put-region-requires

@@ -3,10 +3,6 @@ use Rattle.emission.proofs.Sets.{spared-put, difference-regions}
 use borrow.Author.Needs.{needs}
 use Rattle.emission.proofs.run.put_within.Statement.{statement}
 use Rattle.emission.proofs.run.put_within.Tie as tie
-use Rattle.emission.proofs.run.put_within.Reads as reads
-use Rattle.emission.proofs.run.put_within.Lts as lts
-use Rattle.emission.proofs.run.put_emptiness.Reads as put-emptiness-reads
-use Rattle.region.proofs.put_difference.Reads as put-difference-reads
 
 put-difference-requires : tie.Need-put-difference-requires
 put-difference-requires c κs = search needs

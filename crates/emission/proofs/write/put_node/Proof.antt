@@ -2,10 +2,6 @@ use Rattle.emission.proofs.Writing.{said}
 use borrow.Author.Needs.{needs}
 use Rattle.emission.proofs.write.put_node.Statement.{statement}
 use Rattle.emission.proofs.write.put_node.Tie as tie
-use Rattle.emission.proofs.write.put_node.Reads as reads
-use Rattle.emission.proofs.write.put_node.Lts as lts
-use Rattle.emission.proofs.write.put_words.Reads as put-words-reads
-use Rattle.emission.proofs.write.word.Reads as word-reads
 
 -- src/write.rt:39:24
 word-requires : tie.Need-word-requires

@@ -5,9 +5,6 @@ use Rattle.emission.proofs.Frames.{no-counts, some-counts}
 use borrow.Author.Needs.{needs}
 use Rattle.emission.proofs.write.put_region.Statement.{statement}
 use Rattle.emission.proofs.write.put_region.Tie as tie
-use Rattle.emission.proofs.write.put_region.Reads as reads
-use Rattle.emission.proofs.write.put_region.Lts as lts
-use Rattle.emission.proofs.write.put_node.Reads as put-node-reads
 
 -- src/write.rt:48:9
 put-node-requires : tie.Need-put-node-requires

@@ -1,4 +1,3 @@
-use mathlib.Core.Path.{_≡_, refl}
 use native.Mathlib.Numerals.{add-one, add-two}
 use native.Mathlib.Omega.{arith}
 use lib.ListN.{length-set}
@@ -6,8 +5,6 @@ use mir.Facts.{toZ-ofZ}
 use borrow.Author.Needs.{needs}
 use Rattle.emission.proofs.write.put_words.Statement.{statement}
 use Rattle.emission.proofs.write.put_words.Tie as tie
-use Rattle.emission.proofs.write.put_words.Reads as reads
-use Rattle.emission.proofs.write.put_words.Lts as lts
 
 -- src/write.rt:27:13
 mul-i : tie.Need-mul-i

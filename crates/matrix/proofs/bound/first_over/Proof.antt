@@ -1,6 +1,6 @@
 -- The loop's invariant: the bounds of the nodes passed stand in the array, and none of them is too large.
 use mathlib.Core.Path.{_≡_, refl, sym, ap, _∙_}
-use Prim.Native.Nat.{ℕ, _+_, _-_, _≤_, _<_, zero-le}
+use Prim.Native.Nat.{ℕ, _-_, _≤_, _<_, zero-le}
 use native.Mathlib.Omega.{arith}
 use borrow.Author.Needs.{needs}
 use lib.ListN.{length, getD, take, length-set}

@@ -1,6 +1,4 @@
-use mathlib.Core.Path.{_≡_}
-use lib.IntN.{pos, negℤ, natAbs, _-ℤ_, +ℤ-idl}
-use mir.Syntax.{w32, w64}
+use lib.IntN.{negℤ, +ℤ-idl}
 use mir.Facts.{toZ-ofZ, sfits-widen, fits-natAbs}
 use Rattle.checker.proofs.Signed.{cast-fits}
 use Rattle.matrix.proofs.Absolute.{abs-negℤ}

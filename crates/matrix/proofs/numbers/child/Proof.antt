@@ -1,9 +1,8 @@
 -- The child's number is no negative word, so that it is the index.
-use mathlib.Core.Path.{_≡_, sym, ap, _∙_}
+use mathlib.Core.Path.{ap, _∙_}
 use Prim.Native.Nat.{_<_}
-use native.Mathlib.Omega.{arith}
-use lib.IntN.{pos, natAbs}
-use lib.ListN.{length, getD}
+use lib.IntN.{natAbs}
+use lib.ListN.{length}
 use mir.Syntax.{w32}
 use mir.Val.{toZ, ofZ}
 use mir.Facts.{toZ-ofZ, fits-natAbs}

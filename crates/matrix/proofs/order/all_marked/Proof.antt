@@ -2,7 +2,6 @@ use mathlib.Core.Path.{_≡_, refl, sym, _∙_}
 use mathlib.Core.Bool.{true, false≢true}
 use mathlib.Core.List.{[], _∷_}
 use Prim.Native.Nat.{_<_}
-use borrow.Author.Needs.{needs}
 use borrow.Author.Tests.{not-true, not-false}
 use lib.ListN.{length}
 use Rattle.matrix.specs.Work.{Every}
@@ -10,8 +9,6 @@ use Rattle.matrix.specs.Arranged.{marked}
 use Rattle.matrix.proofs.Marks.{lists-none, lists-one, lists-two, lists-first}
 use Rattle.matrix.proofs.order.all_marked.Statement.{statement}
 use Rattle.matrix.proofs.order.all_marked.Tie as tie
-use Rattle.matrix.proofs.order.all_marked.Reads as reads
-use Rattle.matrix.proofs.order.all_marked.Lts as lts
 
 returns : tie.Need-returns
 returns c = let s = c .before .before in (λ _. rw (lists-none (s .args .o) (c .if1 .taken)) tt, λ _. refl)

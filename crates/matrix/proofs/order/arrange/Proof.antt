@@ -1,13 +1,10 @@
-use mathlib.Core.Path.{_≡_, sym, ap, subst, _∙_}
-use mathlib.Core.Bool.{Bool}
-use mathlib.Core.List.{List}
-use Prim.Native.Nat.{ℕ, _+_, _^_, _≤_, _<_}
+use mathlib.Core.Path.{_≡_, sym, ap, subst}
+use Prim.Native.Nat.{ℕ, _^_, _≤_, _<_}
 use native.Mathlib.Omega.{arith}
 use borrow.Author.Needs.{needs}
 use lib.ListN.{length, getD}
 use Rattle.checker.specs.Words.{claimOf}
 use Rattle.checker.specs.Sorts.{sets}
-use Rattle.checker.specs.Check.{maxSets}
 use Rattle.checker.proofs.Accepted.{accepted-claim}
 use Rattle.matrix.specs.Entry.{Filled}
 use Rattle.matrix.specs.Arranged.{Reach, Ranked}

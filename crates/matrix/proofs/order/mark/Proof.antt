@@ -1,16 +1,12 @@
-use native.Mathlib.Omega.{arith}
 use borrow.Author.Needs.{needs}
 use Prim.Native.Nat.{_<_}
 use mathlib.Core.Bool.{true}
 use mathlib.Core.List.{[], _∷_}
 use lib.ListN.{length, length-set}
 use Rattle.matrix.specs.Work.{Every}
-use Rattle.matrix.specs.Arranged.{listed}
 use Rattle.matrix.proofs.Marks.{lists-none, lists-one, lists-two, lists-first, marked-none, marked-one, marked-two}
 use Rattle.matrix.proofs.order.mark.Statement.{statement}
 use Rattle.matrix.proofs.order.mark.Tie as tie
-use Rattle.matrix.proofs.order.mark.Reads as reads
-use Rattle.matrix.proofs.order.mark.Lts as lts
 
 returns : tie.Need-returns
 returns c = let s = c .before .before in rw (lists-none (s .args .o) (c .if1 .taken)) (marked-none (s .args .marks .now))

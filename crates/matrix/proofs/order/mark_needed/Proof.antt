@@ -1,6 +1,6 @@
 -- The loop's invariant: the root is marked, and the children of each marked node from i on.
 use mathlib.Core.Path.{_≡_, refl, sym, ap, subst, _∙_}
-use mathlib.Core.Bool.{Bool, true, false}
+use mathlib.Core.Bool.{true}
 use mathlib.Core.List.{List, []}
 use Prim.Native.Nat.{ℕ, _+_, _-_, _≤_, _<_}
 use native.Mathlib.Omega.{arith}
@@ -11,7 +11,7 @@ use Rattle.checker.specs.Words.{nodeAt, claimOf}
 use Rattle.checker.specs.Sorts.{AllFit}
 use Rattle.checker.proofs.Accepted.{accepted-claim}
 use Rattle.matrix.specs.Work.{children, Every}
-use Rattle.matrix.specs.Arranged.{listed, marked, Marked}
+use Rattle.matrix.specs.Arranged.{marked, Marked}
 use Rattle.matrix.proofs.Build.{node-at, node-room}
 use Rattle.matrix.proofs.Known.{children-below}
 use Rattle.matrix.proofs.Marks.{every-map, mark-new, ClosedFrom, closed-skip, closed-more}

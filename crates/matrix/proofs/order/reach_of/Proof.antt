@@ -1,18 +1,13 @@
 -- The loop's invariant: `left` regions are covered from `end` on, and the region before `end` is covered.
-use mathlib.Core.Path.{_≡_, sym, ap, subst, _∙_}
+use mathlib.Core.Path.{_≡_, ap, subst}
 use mathlib.Core.Bool.{true}
-use Prim.Native.Nat.{ℕ, _+_, _-_, _≤_, _<_}
+use Prim.Native.Nat.{ℕ, _+_, _-_}
 use native.Mathlib.Omega.{arith}
-use borrow.Author.Needs.{needs}
 use lib.ListN.{length}
 use Rattle.region.specs.Pattern.{coversAt, regionsFrom}
 use Rattle.matrix.proofs.Reaching.{next-covered, none-from}
 use Rattle.matrix.proofs.order.reach_of.Statement.{statement}
 use Rattle.matrix.proofs.order.reach_of.Tie as tie
-use Rattle.matrix.proofs.order.reach_of.Reads as reads
-use Rattle.matrix.proofs.order.reach_of.Lts as lts
-use Rattle.region.proofs.next.Reads as next-reads
-use Rattle.region.proofs.size.Reads as size-reads
 
 abbrev Inv-loop : tie.InvT-loop
 Inv-loop patterns i left₀ end₀ left end =

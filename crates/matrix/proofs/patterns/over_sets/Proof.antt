@@ -1,16 +1,15 @@
 use mathlib.Core.Path.{_≡_, sym, ap, _∙_}
-use Prim.Native.Nat.{ℕ, _+_, _*_, _<_}
+use Prim.Native.Nat.{_+_, _*_, _<_}
 use native.Mathlib.Omega.{arith}
 use borrow.Author.Needs.{needs}
 use lib.Dec.{eqb}
-use lib.ListN.{length, getD}
+use lib.ListN.{getD}
 use Rattle.checker.specs.Claim.{intQ}
 use mathlib.Core.Bool.{true}
-use Rattle.checker.specs.Kinds.{number, quantifierOf}
+use Rattle.checker.specs.Kinds.{quantifierOf}
 use Rattle.checker.specs.Words.{word, wordAt, nodesIn, quantifierAt, claimOf}
 use Rattle.checker.specs.Sorts.{isSetQ}
 use Rattle.checker.proofs.Accepted.{accepted-claim}
-use Rattle.checker.proofs.Words.{words-length}
 use Rattle.matrix.proofs.Build.{nodes-length}
 use Rattle.matrix.proofs.Positions.{kind-3, kind-4, quantifier-at}
 use Rattle.matrix.proofs.patterns.over_sets.Statement.{statement}

@@ -1,14 +1,12 @@
 -- The loop's invariant: the sets counted and those from quantifier j on are the sets inside q.
 use mathlib.Core.Path.{_≡_, sym, ap, _∙_}
-use mathlib.Core.Bool.{true, false}
 use mathlib.Core.Logic.{⊎-elim}
-use Prim.Native.Nat.{ℕ, _+_, _-_, _≤_, _<_}
+use Prim.Native.Nat.{_+_, _-_, _≤_, _<_}
 use native.Mathlib.Omega.{arith}
 use borrow.Author.Needs.{needs}
-use lib.ListN.{length, getD, drop, drop-of-length-le}
-use Rattle.checker.specs.Claim.{intQ}
+use lib.ListN.{length, drop, drop-of-length-le}
 use Rattle.checker.specs.Words.{claimOf}
-use Rattle.checker.specs.Sorts.{isSetQ, sets}
+use Rattle.checker.specs.Sorts.{sets}
 use Rattle.checker.proofs.Accepted.{accepted-claim}
 use Rattle.matrix.proofs.Positions.{sets-yes, sets-no}
 use Rattle.matrix.proofs.patterns.position.Statement.{statement}

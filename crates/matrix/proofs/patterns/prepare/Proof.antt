@@ -1,17 +1,13 @@
 -- The loop's invariant: the entries of the nodes passed stand, and those beyond are as they were.
-use mathlib.Core.Path.{_≡_, refl, _∙_}
-use Prim.Native.Nat.{ℕ, _+_, _-_, _≤_, _<_, zero-le}
+use mathlib.Core.Path.{_≡_, refl}
+use Prim.Native.Nat.{_+_, _-_, _≤_, zero-le}
 use native.Mathlib.Omega.{arith}
 use borrow.Author.Needs.{needs}
-use lib.ListN.{length}
 use Rattle.checker.specs.Words.{claimOf}
 use Rattle.matrix.specs.Entry.{Filled, Beyond}
 use Rattle.matrix.proofs.Filling.{beyond-trans}
 use Rattle.matrix.proofs.patterns.prepare.Statement.{statement}
 use Rattle.matrix.proofs.patterns.prepare.Tie as tie
-use Rattle.matrix.proofs.patterns.prepare.Reads as reads
-use Rattle.matrix.proofs.patterns.prepare.Lts as lts
-use Rattle.matrix.proofs.patterns.put_entry.Reads as put-entry-reads
 
 abbrev Inv-loop : tie.InvT-loop
 Inv-loop words shape patterns₀ nodes i₀ patterns i = (i ≤ nodes) × Filled (claimOf words) i patterns × Beyond i patterns₀ patterns

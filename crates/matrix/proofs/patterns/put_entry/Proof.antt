@@ -1,5 +1,5 @@
 -- Each case of the kind: what the routine stores is the node's entry, since the entries of its children are their sets.
-use mathlib.Core.Path.{_≡_, refl, sym, ap, ap₂, subst, _∙_}
+use mathlib.Core.Path.{_≡_, sym, ap, ap₂, subst, _∙_}
 use mathlib.Core.Bool.{Bool, false, not, xor, _&&_, _||_}
 use mathlib.Core.List.{List}
 use Prim.Native.Nat.{ℕ, _+_, _*_, _^_, _≤_, _<_}
@@ -18,7 +18,6 @@ use Rattle.checker.specs.Check.{maxSets}
 use Rattle.checker.specs.Meaning.{Set, Value, World, setAt}
 use Rattle.checker.proofs.Fitting.{fits-at}
 use Rattle.checker.proofs.Accepted.{accepted-claim}
-use Rattle.region.specs.Regions.{minus}
 use Rattle.region.specs.Pattern.{covers, coversAt, Put}
 use Rattle.matrix.specs.Final.{finalValues}
 use Rattle.matrix.specs.Entry.{entryOf, nodeValues, Filled, Beyond}
