@@ -1,29 +1,27 @@
 -- The sentence that a claim without sets becomes, and the commands that ask a solver whether it fails at some size.
 -- Assumes nothing.
 use mathlib.Core.Path.{_≡_}
-use mathlib.Core.Bool.{Bool, true, _||_}
+use mathlib.Core.Bool.{Bool}
 use mathlib.Core.List.{List, [], _∷_}
 use Prim.Native.Nat.{ℕ, zero, suc}
 use lib.IntN.{ℤ, pos, negsuc}
+use Rattle.checker.specs.declared.Dialect.the-variants.{Emitted}
 use Rattle.checker.specs.Claim.{Node, setVar, empty, whole, union, inter, compl, numVar, const, maxc, sum, diff, multiple, card, equal, less, divided, setEqual, subset, conj, disj, neg, unknown, Quantifier, intQ, setQ, countQ, Claim}
-use Rattle.checker.specs.Kinds.{within}
 use Rattle.checker.specs.Words.{fieldsOf}
 use Rattle.checker.specs.Sorts.{sets}
+use Rattle.checker.specs.Dialect.{takesKind}
+use Rattle.checker.specs.Accepted.{All}
 use Rattle.checker.specs.Meaning.{num}
 use Rattle.sentence.specs.Smt.{theSize, variable, result, plus, subtract, times, equals, below, atLeast, both, either, Expr, named, numeral, untrue, minus, opposite, modulo, two, Sentence, says, letIn, quantify, guarded, denied, Command, setLogic, declare, require, assert, checkSat, Env, bind, nothing}
 
 -- ---- claims without sets
 
--- The kinds that have a sentence: those of 01 but 1 to 6, 16, 23 and 24, which are sets or speak of sets.
-abbrev pub speaksOfNumbers : ℕ → Bool
-speaksOfNumbers kind = within 10 15 kind || (within 20 22 kind || within 25 27 kind)
-
+-- The kinds that have a sentence are those of emitted claims.
 abbrev pub plain : Node → Bool
-plain n = speaksOfNumbers (fieldsOf n .kind)
+plain n = takesKind Emitted (fieldsOf n .kind)
 
 abbrev pub AllPlain : List Node → Type 0
-AllPlain [] = Unit {0}
-AllPlain (n ∷ ns) = (plain n ≡ true) × AllPlain ns
+AllPlain ns = All plain ns
 
 pub record Plain (c : Claim) : Type 0 where
   pub nodes : AllPlain (c .nodes)
