@@ -1,4 +1,3 @@
-pub mod Writing
 pub mod Parts
 pub mod Signs
 pub mod Decimals

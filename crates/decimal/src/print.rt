@@ -4,7 +4,7 @@ ghost use mathlib.Core.List.{[], _∷_};
 ghost use Prim.Native.Nat.{_+_, _*_, _<_, _≤_};
 ghost use lib.IntN.{natAbs};
 ghost use lib.ListN.{length};
-ghost use Rattle.decimal.specs.Write.{Room, Wrote};
+ghost use Rattle.lent.specs.Write.{Room, Wrote};
 ghost use Rattle.decimal.specs.Printing.{decimal, wordText, ending, lineText};
 
 pub fn put_byte(out: &mut [u8], at: usize, b: u8) -> usize

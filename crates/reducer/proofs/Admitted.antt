@@ -18,8 +18,8 @@ use Rattle.checker.specs.Claim.{Claim}
 use Rattle.checker.specs.Words.{claimOf, wordsOf}
 use Rattle.checker.specs.Check.{refusal, verdict, checkOf}
 use Rattle.emission.specs.Emission.{emission}
-use Rattle.emission.specs.Write.{Wrote}
-use Rattle.emission.proofs.Writing.{wrote-front}
+use Rattle.lent.specs.Write.{Wrote}
+use Rattle.lent.proofs.Writing.{wrote-front}
 use Rattle.reducer.specs.declared.Reduced.{Reduced}
 use Rattle.reducer.specs.declared.Reduced.the-variants as reduced
 use Rattle.reducer.specs.Reduced.{numbers, reducerTests, admission, answer, reducedOf, heldAfter, outAfter}

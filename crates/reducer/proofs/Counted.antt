@@ -18,11 +18,13 @@ use Rattle.checker.proofs.Words.{words-append, words-length}
 use Rattle.emission.specs.Emission.{start, insideAll, emitQuantifiers, body, emission}
 use Rattle.emission.specs.Sizes.{allSets}
 use Rattle.emission.specs.Plan.{frameAt}
-use Rattle.emission.specs.Write.{Wrote, Room, WroteNodes}
+use Rattle.lent.specs.Write.{Wrote}
+use Rattle.emission.specs.Write.{Room, WroteNodes}
 use Rattle.emission.proofs.Claims.{Sound, quantifier-at}
 use Rattle.emission.proofs.Lengths.{next-is}
 use Rattle.emission.proofs.Steps.{next-taken}
-use Rattle.emission.proofs.Writing.{nodes-after, wrote-then}
+use Rattle.lent.proofs.Writing.{wrote-then}
+use Rattle.emission.proofs.Writing.{nodes-after}
 use Rattle.reducer.specs.Sizes.{regionCount, constraintPart}
 use Rattle.emission.specs.declared.Body as kept
 use Rattle.reducer.specs.Closing.{Prepared, closedFrom, Tells, closing}

@@ -3,7 +3,7 @@ ghost use Prim.Native.Nat.{_*_, _≤_};
 ghost use lib.ListN.{length};
 ghost use Rattle.checker.specs.Words.{claimOf, wordsOf};
 ghost use Rattle.emission.specs.Emission.{body, emission};
-ghost use Rattle.emission.specs.Write.{Wrote};
+ghost use Rattle.lent.specs.Write.{Wrote};
 ghost use Rattle.reducer.specs.Closing.{Prepared, Tells, closing};
 use crate::constraint::put_constraints;
 use crate::quantifiers::put_quantifiers;

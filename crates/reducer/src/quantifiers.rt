@@ -4,7 +4,7 @@ ghost use mathlib.Core.List.{map};
 ghost use lib.ListN.{length};
 ghost use Rattle.checker.specs.Words.{claimOf, quantifierWord};
 ghost use Rattle.emission.specs.Emission.{emission};
-ghost use Rattle.emission.specs.Write.{Wrote};
+ghost use Rattle.lent.specs.Write.{Wrote};
 ghost use Rattle.reducer.specs.Closing.{Prepared, becomesAt};
 use crate::words::put_repeated;
 use checker::Shape;

@@ -4,7 +4,8 @@ ghost use Prim.Native.Nat.{_+_, _≤_};
 ghost use lib.IntN.{pos};
 ghost use lib.ListN.{length};
 ghost use Rattle.checker.specs.Words.{mark};
-ghost use Rattle.emission.specs.Write.{maxNumber, Wrote};
+ghost use Rattle.lent.specs.Write.{Wrote};
+ghost use Rattle.emission.specs.Write.{maxNumber};
 use crate::words::put_number;
 
 const MARK: usize = 2005;

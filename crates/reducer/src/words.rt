@@ -3,7 +3,8 @@ ghost use mathlib.Core.List.{[], _∷_};
 ghost use Prim.Native.Nat.{_+_, _≤_, _<_};
 ghost use lib.IntN.{pos};
 ghost use lib.ListN.{length, replicate};
-ghost use Rattle.emission.specs.Write.{maxNumber, Wrote};
+ghost use Rattle.lent.specs.Write.{Wrote};
+ghost use Rattle.emission.specs.Write.{maxNumber};
 use emission::write::word;
 
 pub fn put_number(out: &mut [i32], at: usize, n: usize) -> usize

@@ -16,8 +16,8 @@ use Rattle.checker.specs.Words.{claimOf}
 use Rattle.checker.specs.Check.{refusal, checkAs}
 use Rattle.checker.proofs.Accepted.{accepted-claim-as}
 use Rattle.checker.proofs.Words.{words-length}
-use Rattle.decimal.specs.Write.{Wrote}
-use Rattle.decimal.proofs.Writing.{wrote-front}
+use Rattle.lent.specs.Write.{Wrote}
+use Rattle.lent.proofs.Writing.{wrote-front}
 use Rattle.sentence.specs.Text.{textOf}
 use Rattle.solver.specs.declared.Written.{Written}
 use Rattle.solver.specs.declared.Written.the-variants.{Bytes, Refused}

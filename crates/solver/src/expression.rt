@@ -3,7 +3,7 @@ ghost use mathlib.Core.Path.{_≡_};
 ghost use Prim.Native.Nat.{_<_, _≤_};
 ghost use lib.IntN.{pos};
 ghost use Rattle.checker.specs.Kinds.{number, nodeOf};
-ghost use Rattle.decimal.specs.Write.{Room, Wrote};
+ghost use Rattle.lent.specs.Write.{Room, Wrote};
 ghost use Rattle.sentence.specs.Sentences.{wholeNumber, exprOf};
 ghost use Rattle.sentence.specs.Text.{exprText};
 ghost use Rattle.solver.specs.Pieces.{multipleText, dividedText};

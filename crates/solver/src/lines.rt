@@ -1,7 +1,7 @@
 // The lines of a node and of a quantifier.
 ghost use lib.IntN.{pos};
 ghost use Rattle.checker.specs.Kinds.{nodeOf, quantifierOf};
-ghost use Rattle.decimal.specs.Write.{Room, Wrote};
+ghost use Rattle.lent.specs.Write.{Room, Wrote};
 ghost use Rattle.sentence.specs.Lines.{nodeLine, quantifierLine};
 use crate::expression::put_expression;
 use crate::kinds::ALL_COUNTS;

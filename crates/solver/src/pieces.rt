@@ -1,5 +1,5 @@
 // Bytes with one or two numbers between them. Each function answers the place after what it put.
-ghost use Rattle.decimal.specs.Write.{Room, Wrote};
+ghost use Rattle.lent.specs.Write.{Room, Wrote};
 ghost use Rattle.solver.specs.Pieces.{oneText, twoText, pairText, countText};
 
 pub fn put_one(out: &mut [u8], at: usize, s: &[u8], n: u64, t: &[u8]) -> usize

@@ -2,7 +2,7 @@
 ghost use Prim.Native.Nat.{_+_, _*_, _≤_};
 ghost use lib.ListN.{length, replicate};
 ghost use Rattle.checker.specs.Words.{nodeAt, claimOf};
-ghost use Rattle.decimal.specs.Write.{Room, Wrote};
+ghost use Rattle.lent.specs.Write.{Room, Wrote};
 ghost use Rattle.sentence.specs.Text.{textOf};
 ghost use Rattle.sentence.specs.Lines.{nodeLine, nodeLines, quantifierLines};
 ghost use Rattle.solver.specs.Laid.{Laid};

@@ -4,8 +4,8 @@ use mathlib.Core.List.{List}
 use Prim.Native.Nat.{ℕ, _≤_}
 use native.Mathlib.Nat.{zero-add}
 use native.Mathlib.Omega.{arith}
-use Rattle.decimal.specs.Write.{Wrote}
-use Rattle.decimal.proofs.Writing.{wrote-front}
+use Rattle.lent.specs.Write.{Wrote}
+use Rattle.lent.proofs.Writing.{wrote-front}
 use lib.ListN.{length, length-append}
 use Rattle.text.specs.Answer.{Printed}
 

@@ -2,7 +2,7 @@
 ghost use mathlib.Core.Path.{_≡_};
 ghost use Prim.Native.Nat.{_+_, _*_, _≤_};
 ghost use lib.ListN.{length};
-ghost use Rattle.decimal.specs.Write.{Wrote};
+ghost use Rattle.lent.specs.Write.{Wrote};
 ghost use Rattle.checker.specs.Words.{claimOf, wordsOf};
 ghost use Rattle.text.specs.Answer.{mark, refusalText, unread, stepsText, tableText, Printed};
 ghost use Rattle.text.specs.Lines.{nodeLines};

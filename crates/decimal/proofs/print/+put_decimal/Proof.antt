@@ -2,7 +2,7 @@
 use mathlib.Core.Path.{_∙_}
 use Prim.Native.Nat.{ℕ, _+_, _≤_, _<_}
 use native.Mathlib.Omega.{arith}
-use Rattle.decimal.proofs.Writing.{wrote-then, wrote-long, room-left, room-right}
+use Rattle.lent.proofs.Writing.{wrote-then, wrote-long, room-left, room-right}
 use Rattle.decimal.proofs.Decimals.{decimal-small, decimal-step}
 use borrow.Fn.Kinds.{In}
 use borrow.Fn.PlainCycle.{Measures, is, falls, and}

@@ -7,7 +7,7 @@ use native.Mathlib.Numerals.{add-one}
 use native.Mathlib.Omega.{arith}
 use lib.ListN.{length, drop, drop-of-length-le}
 use lib.Seq.{drop-cons}
-use Rattle.decimal.proofs.Writing.{Rest, rest-start, rest-step, rest-end}
+use Rattle.lent.proofs.Writing.{Rest, rest-start, rest-step, rest-end}
 use Rattle.decimal.proofs.print.put_bytes.Statement.{statement}
 use Rattle.decimal.proofs.print.put_bytes.Tie as tie
 

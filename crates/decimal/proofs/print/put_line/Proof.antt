@@ -8,7 +8,7 @@ use lib.IntN.{pos}
 use mir.Syntax.{w32}
 use mir.Facts.{toZ-ofZ}
 use Rattle.decimal.specs.Printing.{ending, lineText}
-use Rattle.decimal.proofs.Writing.{Rest, rest-start, rest-step, rest-end, wrote-then, wrote-long}
+use Rattle.lent.proofs.Writing.{Rest, rest-start, rest-step, rest-end, wrote-then, wrote-long}
 use Rattle.decimal.proofs.Parts.{all-after}
 use Rattle.decimal.proofs.Lines.{line-none, line-step}
 use Rattle.decimal.proofs.print.put_line.Statement.{statement}

@@ -5,7 +5,7 @@ use lib.IntN.{natAbs}
 use lib.ListN.{length}
 use mir.Facts.{toZ-ofZ}
 use Rattle.decimal.specs.Printing.{decimal}
-use Rattle.decimal.proofs.Writing.{wrote-then, wrote-long}
+use Rattle.lent.proofs.Writing.{wrote-then, wrote-long}
 use Rattle.decimal.proofs.Lines.{negative-text, positive-text, word-digits}
 use borrow.Author.Needs.{needs}
 use Rattle.decimal.proofs.print.put_word.Statement.{statement}

@@ -6,7 +6,8 @@ use lib.ListN.{length, length-map}
 use Rattle.checker.specs.Words.{claimOf, quantifierWord}
 use Rattle.checker.proofs.Words.{words-length}
 use Rattle.emission.specs.Emission.{emission}
-use Rattle.emission.proofs.Writing.{nodes-long, wrote-long, wrote-then}
+use Rattle.lent.proofs.Writing.{wrote-long, wrote-then}
+use Rattle.emission.proofs.Writing.{nodes-long}
 use Rattle.reducer.proofs.Accepted.{accepted-nodes, accepted-quantifiers}
 use Rattle.reducer.proofs.Counted.{closing-parts, root-below, constraints-room, constraints-done}
 use borrow.Author.Needs.{needs}

@@ -7,8 +7,8 @@ use native.Mathlib.Omega.{arith}
 use lib.ListN.{length, take}
 use Rattle.checker.specs.Words.{claimOf, quantifierWord}
 use Rattle.emission.specs.Emission.{start, emitQuantifiers}
-use Rattle.emission.specs.Write.{Wrote}
-use Rattle.emission.proofs.Writing.{wrote-long, wrote-none, wrote-then}
+use Rattle.lent.specs.Write.{Wrote}
+use Rattle.lent.proofs.Writing.{wrote-long, wrote-none, wrote-then}
 use Rattle.reducer.proofs.Joining.{known}
 use Rattle.reducer.proofs.Becoming.{emitted-none, emitted-step, emitted-room, emitted-all}
 use borrow.Author.Needs.{needs}

@@ -1,5 +1,5 @@
 -- `reducer::trailer::put_trailer` meets its contract. Assumes nothing.
-use Rattle.emission.proofs.Writing.{wrote-then}
+use Rattle.lent.proofs.Writing.{wrote-then}
 use borrow.Author.Needs.{needs}
 use Rattle.reducer.proofs.trailer.put_trailer.Statement.{statement}
 use Rattle.reducer.proofs.trailer.put_trailer.Tie as tie

@@ -3,7 +3,7 @@ use Prim.Native.Nat.{_+_, _≤_}
 use native.Mathlib.Omega.{arith}
 use lib.IntN.{pos}
 use lib.ListN.{length, replicate}
-use Rattle.emission.proofs.Writing.{Rest, rest-start, rest-step, rest-end, wrote-long}
+use Rattle.lent.proofs.Writing.{Rest, rest-start, rest-step, rest-end, wrote-long}
 use Rattle.reducer.proofs.Becoming.{replicate-step, replicate-none}
 use borrow.Author.Needs.{needs}
 use Rattle.reducer.proofs.words.put_repeated.Statement.{statement}

@@ -2,7 +2,7 @@
 use mir.Facts.{toZ-ofZ}
 use lib.IntN.{pos}
 use Rattle.checker.specs.Kinds.{nodeOf}
-use Rattle.decimal.proofs.Writing.{wrote-then, room-left, room-right}
+use Rattle.lent.proofs.Writing.{wrote-then, room-left, room-right}
 use Rattle.solver.proofs.Parts.{line-parts}
 use borrow.Author.Needs.{needs}
 use Rattle.solver.proofs.lines.put_line.Statement.{statement}

@@ -1,5 +1,5 @@
 -- `solver::lines::put_quantifier` meets its contract: a law for each kind. Assumes nothing.
-use Rattle.decimal.proofs.Writing.{wrote-none}
+use Rattle.lent.proofs.Writing.{wrote-none}
 use Rattle.solver.proofs.Parts.{integers-line, some-set-line, all-sets-line, some-count-line, all-counts-line, other-line}
 use borrow.Author.Needs.{needs}
 use Rattle.solver.proofs.lines.put_quantifier.Statement.{statement}

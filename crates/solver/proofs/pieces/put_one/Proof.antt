@@ -1,5 +1,5 @@
 -- `solver::pieces::put_one` meets its contract. Assumes nothing.
-use Rattle.decimal.proofs.Writing.{wrote-then, room-left, room-right}
+use Rattle.lent.proofs.Writing.{wrote-then, room-left, room-right}
 use borrow.Author.Needs.{needs}
 use Rattle.solver.proofs.pieces.put_one.Statement.{statement}
 use Rattle.solver.proofs.pieces.put_one.Tie as tie

@@ -1,5 +1,5 @@
 -- `solver::pieces::put_two` meets its contract. Assumes nothing.
-use Rattle.decimal.proofs.Writing.{wrote-then, room-left, room-right}
+use Rattle.lent.proofs.Writing.{wrote-then, room-left, room-right}
 use Rattle.solver.proofs.Forms.{two-parts}
 use borrow.Author.Needs.{needs}
 use Rattle.solver.proofs.pieces.put_two.Statement.{statement}

@@ -3,8 +3,8 @@ use Prim.Native.Nat.{_-_, _≤_, _<_}
 use native.Mathlib.Omega.{arith}
 use lib.ListN.{length, drop}
 use Rattle.checker.specs.Words.{claimOf}
-use Rattle.decimal.specs.Write.{Room}
-use Rattle.decimal.proofs.Writing.{Rest, rest-start, rest-step, rest-end, room-left, room-right}
+use Rattle.lent.specs.Write.{Room}
+use Rattle.lent.proofs.Writing.{Rest, rest-start, rest-step, rest-end, room-left, room-right}
 use Rattle.sentence.specs.Lines.{nodeLines}
 use Rattle.solver.proofs.Steps.{node-step, node-end}
 use Rattle.solver.proofs.text.put_nodes.Statement.{statement}

@@ -4,8 +4,8 @@ use borrow.Author.Needs.{needs}
 use native.Mathlib.Omega.{arith}
 use lib.ListN.{length, drop}
 use Rattle.checker.specs.Words.{claimOf}
-use Rattle.decimal.specs.Write.{Room}
-use Rattle.decimal.proofs.Writing.{Rest, rest-start, rest-step, rest-end, room-left, room-right}
+use Rattle.lent.specs.Write.{Room}
+use Rattle.lent.proofs.Writing.{Rest, rest-start, rest-step, rest-end, room-left, room-right}
 use Rattle.sentence.specs.Lines.{quantifierLines}
 use Rattle.solver.proofs.Steps.{quantifier-step, quantifier-end}
 use Rattle.solver.proofs.text.put_quantifiers.Statement.{statement}

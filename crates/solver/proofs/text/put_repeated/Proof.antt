@@ -1,8 +1,8 @@
 -- `solver::text::put_repeated` meets its contract: in the loop the bytes that are left are still to be put. Assumes nothing.
 use native.Mathlib.Omega.{arith}
 use lib.ListN.{replicate}
-use Rattle.decimal.specs.Write.{Room}
-use Rattle.decimal.proofs.Writing.{Rest, rest-start, rest-step, rest-end, room-left, room-right}
+use Rattle.lent.specs.Write.{Room}
+use Rattle.lent.proofs.Writing.{Rest, rest-start, rest-step, rest-end, room-left, room-right}
 use Rattle.solver.proofs.Steps.{repeat-step, repeat-end}
 use Rattle.solver.proofs.text.put_repeated.Statement.{statement}
 use Rattle.solver.proofs.text.put_repeated.Tie as tie

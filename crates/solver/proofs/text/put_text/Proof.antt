@@ -1,6 +1,6 @@
 -- `solver::text::put_text` meets its contract: one part after the other. Assumes nothing.
 use Rattle.checker.specs.Words.{claimOf}
-use Rattle.decimal.proofs.Writing.{wrote-then, room-left, room-right}
+use Rattle.lent.proofs.Writing.{wrote-then, room-left, room-right}
 use Rattle.solver.proofs.Whole.{text-parts}
 use borrow.Author.Needs.{needs}
 use Rattle.solver.proofs.text.put_text.Statement.{statement}

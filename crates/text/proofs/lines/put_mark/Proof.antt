@@ -1,6 +1,6 @@
 -- `text::lines::put_mark` meets its contract. Assumes nothing.
 use native.Mathlib.Omega.{arith}
-use Rattle.decimal.proofs.Writing.{wrote-then, wrote-long}
+use Rattle.lent.proofs.Writing.{wrote-then, wrote-long}
 use Rattle.decimal.proofs.Decimals.{decimal-short}
 use borrow.Author.Needs.{needs}
 use Rattle.text.proofs.lines.put_mark.Statement.{statement}

@@ -3,7 +3,7 @@ use Prim.Native.Nat.{_+_, _*_, _-_, _≤_}
 use native.Mathlib.Nat.{sub-zero}
 use native.Mathlib.Omega.{arith}
 use lib.ListN.{drop}
-use Rattle.decimal.proofs.Writing.{Rest, rest-start, rest-step, rest-end}
+use Rattle.lent.proofs.Writing.{Rest, rest-start, rest-step, rest-end}
 use Rattle.text.specs.Lines.{nodeLines}
 use Rattle.text.proofs.Tables.{part-length, lines-none, lines-step}
 use Rattle.text.proofs.lines.put_nodes.Statement.{statement}

@@ -1,6 +1,6 @@
 -- `text::lines::put_steps` meets its contract. Assumes nothing.
 use native.Mathlib.Omega.{arith}
-use Rattle.decimal.proofs.Writing.{wrote-then}
+use Rattle.lent.proofs.Writing.{wrote-then}
 use Rattle.text.specs.Answer.{stepsText}
 use Rattle.text.proofs.Printing.{printed}
 use borrow.Author.Needs.{needs}

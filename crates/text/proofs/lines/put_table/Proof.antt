@@ -2,7 +2,7 @@
 use Prim.Native.Nat.{_*_, _-_}
 use native.Mathlib.Omega.{arith}
 use lib.ListN.{length}
-use Rattle.decimal.proofs.Writing.{wrote-then, wrote-long}
+use Rattle.lent.proofs.Writing.{wrote-then, wrote-long}
 use Rattle.decimal.proofs.Parts.{all-after}
 use Rattle.text.proofs.Printing.{printed}
 use Rattle.text.proofs.Tables.{part-length, table-long, table-whole}

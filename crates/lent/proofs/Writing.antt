@@ -7,7 +7,7 @@ use native.Mathlib.Nat.{add-zero, zero-add, add-suc, suc-add}
 use native.Mathlib.Omega.{arith}
 use lib.ListN.{length, drop, set, length-append}
 use lib.Seq.{sets, sets-eq, length-sets}
-use Rattle.decimal.specs.Write.{Room, Wrote}
+use Rattle.lent.specs.Write.{Room, Wrote}
 
 sets-append : {A : Type 0} (l : List A) (i : ℕ) (us vs : List A) → sets l i (us ++ vs) ≡ sets (sets l i us) (i + length us) vs
 sets-append l i [] vs = rw add-zero

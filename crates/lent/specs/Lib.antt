@@ -1,0 +1,2 @@
+-- Writing into a lent list.
+pub mod Write
