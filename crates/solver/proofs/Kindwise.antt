@@ -6,6 +6,7 @@ use Prim.Native.Nat.{ℕ, _<_, _≤_}
 use native.Mathlib.Omega.{arith}
 use lib.IntN.{ℤ, pos}
 use Rattle.checker.specs.Kinds.{number, sortTable, nodeOf}
+use Rattle.checker.proofs.Rowwise.{_▸_}
 use Rattle.decimal.specs.Printing.{decimal}
 use Rattle.sentence.specs.Bytes.{bytes}
 use Rattle.sentence.specs.Smt.{untrue}
@@ -76,7 +77,31 @@ module _ (k : ℕ) (a b : ℤ) where
 
   other-term-untrue : k < 20 → OtherTerm k → exprOf (nodeOf (pos k) a b) ≡ untrue
   unfolding nodeOf number
-  other-term-untrue l h = by-entry (λ n. exprOf n ≡ untrue) k a b sortTable (inr refl, (inr refl, (inr refl, (inr refl, (inr refl, (inr refl, (inl (h .0 .0 .0 .0 .0 .1), (inl (h .0 .0 .0 .0 .1), (inl (h .0 .0 .0 .1), (inl (h .0 .0 .1), (inl (h .0 .1), (inl (h .1), (inr refl, (inl (λ e. omega arith), (inl (λ e. omega arith), (inl (λ e. omega arith), (inr refl, (inr refl, (inl (λ e. omega arith), (inl (λ e. omega arith), (inl (λ e. omega arith), tt))))))))))))))))))))) refl
+  other-term-untrue l h =
+      by-entry (λ n. exprOf n ≡ untrue) k a b sortTable
+      (inr refl
+      ▸ inr refl
+      ▸ inr refl
+      ▸ inr refl
+      ▸ inr refl
+      ▸ inr refl
+      ▸ inl (h .0 .0 .0 .0 .0 .1)
+      ▸ inl (h .0 .0 .0 .0 .1)
+      ▸ inl (h .0 .0 .0 .1)
+      ▸ inl (h .0 .0 .1)
+      ▸ inl (h .0 .1)
+      ▸ inl (h .1)
+      ▸ inr refl
+      ▸ inl (λ e. omega arith)
+      ▸ inl (λ e. omega arith)
+      ▸ inl (λ e. omega arith)
+      ▸ inr refl
+      ▸ inr refl
+      ▸ inl (λ e. omega arith)
+      ▸ inl (λ e. omega arith)
+      ▸ inl (λ e. omega arith)
+      ▸ tt)
+      refl
 
   pub other-term-text : k < 20 → OtherTerm k → text ≡ bytes "false"
   unfolding exprText
@@ -84,7 +109,31 @@ module _ (k : ℕ) (a b : ℤ) where
 
   other-formula-untrue : 20 ≤ k → OtherFormula k → exprOf (nodeOf (pos k) a b) ≡ untrue
   unfolding nodeOf number
-  other-formula-untrue l h = by-entry (λ n. exprOf n ≡ untrue) k a b sortTable (inr refl, (inr refl, (inr refl, (inr refl, (inr refl, (inr refl, (inl (λ e. omega arith), (inl (λ e. omega arith), (inl (λ e. omega arith), (inl (λ e. omega arith), (inl (λ e. omega arith), (inl (λ e. omega arith), (inr refl, (inl (h .0 .0 .0 .0 .0 .1), (inl (h .0 .0 .0 .0 .1), (inl (h .0 .0 .0 .1), (inr refl, (inr refl, (inl (h .0 .0 .1), (inl (h .0 .1), (inl (h .1), tt))))))))))))))))))))) refl
+  other-formula-untrue l h =
+      by-entry (λ n. exprOf n ≡ untrue) k a b sortTable
+      (inr refl
+      ▸ inr refl
+      ▸ inr refl
+      ▸ inr refl
+      ▸ inr refl
+      ▸ inr refl
+      ▸ inl (λ e. omega arith)
+      ▸ inl (λ e. omega arith)
+      ▸ inl (λ e. omega arith)
+      ▸ inl (λ e. omega arith)
+      ▸ inl (λ e. omega arith)
+      ▸ inl (λ e. omega arith)
+      ▸ inr refl
+      ▸ inl (h .0 .0 .0 .0 .0 .1)
+      ▸ inl (h .0 .0 .0 .0 .1)
+      ▸ inl (h .0 .0 .0 .1)
+      ▸ inr refl
+      ▸ inr refl
+      ▸ inl (h .0 .0 .1)
+      ▸ inl (h .0 .1)
+      ▸ inl (h .1)
+      ▸ tt)
+      refl
 
   pub other-formula-text : 20 ≤ k → OtherFormula k → text ≡ bytes "false"
   unfolding exprText

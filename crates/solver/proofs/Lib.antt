@@ -6,3 +6,4 @@ pub mod Short
 pub mod Steps
 pub mod Whole
 pub mod Answers
+pub mod Examples

@@ -14,6 +14,7 @@ use mir.Syntax.{w32}
 use mir.Val.{SFits}
 use Rattle.checker.specs.Claim.{Quantifier, intQ, setQ, countQ}
 use Rattle.checker.specs.Kinds.{number, sortTable, nodeOf}
+use Rattle.checker.proofs.Rowwise.{_▸_}
 use Rattle.decimal.specs.Printing.{decimal}
 use Rattle.decimal.proofs.Decimals.{decimal-length, decimal-short}
 use Rattle.sentence.specs.Bytes.{bytes}
@@ -21,14 +22,10 @@ use Rattle.sentence.specs.Sentences.{wholeNumber, exprOf}
 use Rattle.sentence.specs.Text.{nameText, exprText, quantifyLine}
 use Rattle.sentence.specs.Lines.{nodeLine, quantifierLine}
 use Rattle.solver.specs.Pieces.{oneText, twoText, pairText, countText, multipleText, dividedText}
-use Rattle.solver.specs.Laid.{rootLine}
+use Rattle.solver.specs.Laid.{Ten, longestLine, rootLine}
 use Rattle.solver.proofs.Entries.{by-entry}
 use Rattle.solver.proofs.Forms.{multiple-below, multiple-from-0, divided-0, divided-below, divided-above}
 use Rattle.solver.proofs.Parts.{line-parts, count-some, count-all}
-
--- ten digits at most
-abbrev pub Ten : ℕ → Type 0
-Ten n = n < 10 ^ 10
 
 digits : (n : ℕ) → Ten n → length (decimal n) ≤ 10
 digits n h = decimal-length 9 n h
@@ -79,23 +76,44 @@ module _ (a b : ℤ) (f : SFits w32 a) (g : SFits w32 b) where
   unfolding nodeOf number exprText nameText
   expression-short kind =
       by-entry (λ n. length (exprText (exprOf n)) ≤ 40) kind a b sortTable
-      (inr (omega arith), (inr (omega arith), (inr (omega arith), (inr (omega arith), (inr (omega arith), (inr (omega arith), (inr (omega (arith, digits (number a) (number-ten a f))), (inr (constant-short a (magnitude-ten a f)), (inr (omega arith), (inr (pair (bytes "(+ n") (omega arith)), (inr (pair (bytes "(- n") (omega arith)), (inr (multiple-short a (number b) (magnitude-ten a f) (number-ten b g)), (inr (omega arith), (inr (pair (bytes "(= n") (omega arith)), (inr (pair (bytes "(< n") (omega arith)), (inr (divided-short a (number b) (magnitude-ten a f) (number-ten b g)), (inr (omega arith), (inr (omega arith), (inr (pair (bytes "(and n") (omega arith)), (inr (pair (bytes "(or n") (omega arith)), (inr (omega (arith, one-short (bytes "(not n") (number a) (bytes ")") (number-ten a f))), tt)))))))))))))))))))))
+      (inr (omega arith)
+      ▸ inr (omega arith)
+      ▸ inr (omega arith)
+      ▸ inr (omega arith)
+      ▸ inr (omega arith)
+      ▸ inr (omega arith)
+      ▸ inr (omega (arith, digits (number a) (number-ten a f)))
+      ▸ inr (constant-short a (magnitude-ten a f))
+      ▸ inr (omega arith)
+      ▸ inr (pair (bytes "(+ n") (omega arith))
+      ▸ inr (pair (bytes "(- n") (omega arith))
+      ▸ inr (multiple-short a (number b) (magnitude-ten a f) (number-ten b g))
+      ▸ inr (omega arith)
+      ▸ inr (pair (bytes "(= n") (omega arith))
+      ▸ inr (pair (bytes "(< n") (omega arith))
+      ▸ inr (divided-short a (number b) (magnitude-ten a f) (number-ten b g))
+      ▸ inr (omega arith)
+      ▸ inr (omega arith)
+      ▸ inr (pair (bytes "(and n") (omega arith))
+      ▸ inr (pair (bytes "(or n") (omega arith))
+      ▸ inr (omega (arith, one-short (bytes "(not n") (number a) (bytes ")") (number-ten a f)))
+      ▸ tt)
       (omega arith)
 
   -- ---- lines
 
-  pub line-short : (i kind : ℕ) → Ten i → length (nodeLine i (nodeOf (pos kind) a b)) ≤ 64
+  pub line-short : (i kind : ℕ) → Ten i → length (nodeLine i (nodeOf (pos kind) a b)) ≤ longestLine
   line-short i kind h =
       let n = nodeOf (pos kind) a b in
       rw (line-parts i n, length-append (oneText (bytes "(let ((n") i (bytes " ")) (exprText (exprOf n) ++ bytes "))\n"), length-append (exprText (exprOf n)) (bytes "))\n"))
       (omega (arith, one-short (bytes "(let ((n") i (bytes " ") h, expression-short kind))
 
-count-short : (s g : List ℕ) (i : ℕ) → length s ≤ 11 → length g ≤ 10 → Ten i → length (countText s g i) ≤ 64
+count-short : (s g : List ℕ) (i : ℕ) → length s ≤ 11 → length g ≤ 10 → Ten i → length (countText s g i) ≤ longestLine
 count-short s g i l m h =
     rw (length-append (oneText s i (bytes " Int))\n")) (oneText g i (bytes " 0)\n")))
     (omega (arith, one-short s i (bytes " Int))\n") h, one-short g i (bytes " 0)\n") h))
 
-pub quantifier-short : (i : ℕ) (q : Quantifier) → Ten i → length (quantifierLine i q) ≤ 64
+pub quantifier-short : (i : ℕ) (q : Quantifier) → Ten i → length (quantifierLine i q) ≤ longestLine
 unfolding quantifierLine quantifyLine nameText
 quantifier-short i (intQ true) h = omega (arith, one-short (bytes "(exists ((q") i (bytes " Int))\n") h)
 quantifier-short i (intQ false) h = omega (arith, one-short (bytes "(forall ((q") i (bytes " Int))\n") h)
@@ -103,5 +121,5 @@ quantifier-short i (setQ some) h = omega arith
 quantifier-short i (countQ true) h = rw (count-some i) (count-short (bytes "(exists ((q") (bytes "(and (>= q") i (omega arith) (omega arith) h)
 quantifier-short i (countQ false) h = rw (count-all i) (count-short (bytes "(forall ((q") (bytes "(=> (>= q") i (omega arith) (omega arith) h)
 
-pub root-short : (r : ℕ) → r < 2 ^ 64 → length (rootLine r) ≤ 64
+pub root-short : (r : ℕ) → r < 2 ^ 64 → length (rootLine r) ≤ longestLine
 root-short r h = simp length-append (omega (arith, decimal-short r h))

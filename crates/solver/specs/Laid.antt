@@ -2,7 +2,7 @@
 -- Assumes nothing.
 use mathlib.Core.Path.{_≡_}
 use mathlib.Core.List.{List}
-use Prim.Native.Nat.{ℕ, _+_, _*_, _≤_}
+use Prim.Native.Nat.{ℕ, _+_, _*_, _^_, _<_, _≤_}
 use lib.IntN.{ℤ}
 use lib.ListN.{length}
 use Rattle.checker.specs.declared.Shape.{Shape}
@@ -21,6 +21,14 @@ pub record Laid (ws : List ℤ) (s : Shape) : Type 0 where
   pub few-nodes : s .nodes ≤ mostNodes Emitted
   pub few-quantifiers : s .quantifiers ≤ mostQuantifiers Emitted
   pub long : length ws ≡ 3 * s .nodes + s .quantifiers + 4
+
+-- at most ten digits: so is every number in a table
+abbrev pub Ten : ℕ → Type 0
+Ten n = n < 10 ^ 10
+
+-- No line of a node and no lines of a quantifier are longer.
+abbrev pub longestLine : ℕ
+longestLine = 64
 
 -- the root on its line
 abbrev pub rootLine : ℕ → List ℕ

@@ -20,7 +20,6 @@ pub use lines::put_line;
 pub use lines::put_quantifier;
 pub use pieces::put_one;
 pub use size::closing;
-pub use text::put_node;
 
 // How many bytes were written, or a refusal.
 pub enum Written {

@@ -1,13 +1,13 @@
-// How long the text of a claim is. A line is measured by writing it where nobody looks.
+// How long the text of a claim is. A line is measured by writing it into an array of its own.
 ghost use mathlib.Core.Path.{_≡_};
-ghost use Prim.Native.Nat.{_+_, _*_, _≤_, _<_, _^_};
+ghost use Prim.Native.Nat.{_+_, _*_, _≤_};
 ghost use lib.IntN.{pos};
 ghost use lib.ListN.{length};
 ghost use Rattle.checker.specs.Kinds.{nodeOf, quantifierOf};
 ghost use Rattle.checker.specs.Words.{claimOf};
 ghost use Rattle.sentence.specs.Text.{textOf};
 ghost use Rattle.sentence.specs.Lines.{nodeLine, nodeLines, quantifierLine, quantifierLines, brackets};
-ghost use Rattle.solver.specs.Laid.{Laid, openedBy, rootLine};
+ghost use Rattle.solver.specs.Laid.{Laid, Ten, longestLine, openedBy, rootLine};
 use crate::kinds::ALL_COUNTS;
 use crate::kinds::ALL_SETS;
 use crate::kinds::SOME_COUNT;
@@ -23,34 +23,34 @@ const OPENING: usize = 75;
 const ENDING: usize = 13;
 
 // No line of a node and no lines of a quantifier are longer.
-const LINE: usize = 64;
+const LONGEST_LINE: usize = 64;
 
 fn line_length(i: usize, kind: usize, a: i32, b: i32) -> usize
-    requires { ⌜ i < 10 ^ 10 ⌝ }
-    ensures { λ r. ⌜ (r ≡ length (nodeLine i (nodeOf (pos kind) a b))) × (r ≤ 64) ⌝ }
+    requires { ⌜ Ten i ⌝ }
+    ensures { λ r. ⌜ (r ≡ length (nodeLine i (nodeOf (pos kind) a b))) × (r ≤ longestLine) ⌝ }
 {
-    let mut line = [0u8; LINE];
+    let mut line = [0u8; LONGEST_LINE];
     put_line(&mut line, 0, i, kind, a, b)
 }
 
 fn quantifier_length(i: usize, kind: usize) -> usize
-    requires { ⌜ i < 10 ^ 10 ⌝ }
-    ensures { λ r. ⌜ (r ≡ length (quantifierLine i (quantifierOf (pos kind)))) × (r ≤ 64) ⌝ }
+    requires { ⌜ Ten i ⌝ }
+    ensures { λ r. ⌜ (r ≡ length (quantifierLine i (quantifierOf (pos kind)))) × (r ≤ longestLine) ⌝ }
 {
-    let mut line = [0u8; LINE];
+    let mut line = [0u8; LONGEST_LINE];
     put_quantifier(&mut line, 0, i, kind)
 }
 
 fn root_length(root: usize) -> usize
-    ensures { λ r. ⌜ (r ≡ length (rootLine root)) × (r ≤ 64) ⌝ }
+    ensures { λ r. ⌜ (r ≡ length (rootLine root)) × (r ≤ longestLine) ⌝ }
 {
-    let mut line = [0u8; LINE];
+    let mut line = [0u8; LONGEST_LINE];
     put_one(&mut line, 0, b"n", root as u64, b"\n")
 }
 
 fn nodes_length(words: &[i32], shape: Shape) -> usize
     requires { ⌜ Laid (now words) shape ⌝ }
-    ensures { λ r. ⌜ (r ≡ length (nodeLines 0 (claimOf (now (words .entry)) .nodes))) × (r ≤ 64 * shape .nodes) ⌝ }
+    ensures { λ r. ⌜ (r ≡ length (nodeLines 0 (claimOf (now (words .entry)) .nodes))) × (r ≤ longestLine * shape .nodes) ⌝ }
 {
     let nodes = shape.nodes;
     let mut total = 0;
@@ -65,7 +65,7 @@ fn nodes_length(words: &[i32], shape: Shape) -> usize
 
 fn quantifiers_length(words: &[i32], shape: Shape) -> usize
     requires { ⌜ Laid (now words) shape ⌝ }
-    ensures { λ r. ⌜ (r ≡ length (quantifierLines 0 (claimOf (now (words .entry)) .quantifiers))) × (r ≤ 64 * shape .quantifiers) ⌝ }
+    ensures { λ r. ⌜ (r ≡ length (quantifierLines 0 (claimOf (now (words .entry)) .quantifiers))) × (r ≤ longestLine * shape .quantifiers) ⌝ }
 {
     let first = 3 * shape.nodes;
     let quantifiers = shape.quantifiers;

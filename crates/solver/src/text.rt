@@ -13,7 +13,7 @@ use crate::size::closing;
 use checker::Shape;
 
 // The line of node i of a table.
-pub fn put_node(words: &[i32], i: usize, out: &mut [u8], at: usize) -> usize
+fn put_node(words: &[i32], i: usize, out: &mut [u8], at: usize) -> usize
     requires { ⌜ (3 * i + 3 ≤ length (now words)) × Room (now out) at (nodeLine i (nodeAt (now words) i)) ⌝ }
     ensures { λ next. ⌜ Wrote (now (out .entry)) at (nodeLine i (nodeAt (now (words .entry)) i)) (now (out .exit)) next ⌝ }
 {
@@ -42,11 +42,11 @@ fn put_quantifiers(words: &[i32], shape: Shape, out: &mut [u8], at: usize) -> us
     let first = 3 * shape.nodes;
     let quantifiers = shape.quantifiers;
     let mut here = at;
-    let mut i = 0;
-    while i < quantifiers {
-        let kind = checker::word(words, first + i);
-        here = put_quantifier(out, here, i, kind);
-        i += 1;
+    let mut j = 0;
+    while j < quantifiers {
+        let kind = checker::word(words, first + j);
+        here = put_quantifier(out, here, j, kind);
+        j += 1;
     }
     here
 }

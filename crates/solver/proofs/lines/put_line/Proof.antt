@@ -3,6 +3,8 @@ use mir.Facts.{toZ-ofZ}
 use lib.IntN.{pos}
 use Rattle.checker.specs.Kinds.{nodeOf}
 use Rattle.lent.proofs.Writing.{wrote-then, room-left, room-right}
+use Rattle.sentence.specs.Bytes.{bytes}
+use Rattle.solver.specs.Pieces.{oneText}
 use Rattle.solver.proofs.Parts.{line-parts}
 use borrow.Author.Needs.{needs}
 use Rattle.solver.proofs.lines.put_line.Statement.{statement}
@@ -44,7 +46,7 @@ returns c =
     let start = c .before .before .before .before .before .before .before .before .before .before .before .before .before .before .before .before in
     let node = nodeOf (pos (start .args .kind)) (start .args .a) (start .args .b) in
     let put = rw (toZ-ofZ (start .fits .a), toZ-ofZ (start .fits .b)) at (c .before .before .before .before .before .before .before .put-expression .ensures) in
-    rw (line-parts (start .args .i) node) (wrote-then (c .before .before .before .before .before .before .before .before .before .before .before .put-one .ensures) (wrote-then put (c .before .before .put-bytes .ensures)))
+    rw (line-parts (start .args .i) node) (wrote-then {us = oneText (bytes "(let ((n") (start .args .i) (bytes " ")} (c .before .before .before .before .before .before .before .before .before .before .before .put-one .ensures) (wrote-then put (c .before .before .put-bytes .ensures)))
 
 pub put-line-spec : {M : Type 1} → statement M
 put-line-spec =

@@ -1,6 +1,4 @@
 -- `solver::size::root_length` meets its contract. Assumes nothing.
-use mathlib.Core.Path.{_∙_}
-use native.Mathlib.Nat.{zero-add}
 use native.Mathlib.Omega.{arith}
 use Rattle.solver.proofs.Short.{root-short}
 use borrow.Author.Needs.{needs}
@@ -23,7 +21,7 @@ put-one-requires c κs =
 returns : tie.Need-returns
 returns c =
     let put = c .before .put-one .ensures in
-    (put .after ∙ zero-add _, omega (arith, put .after, root-short (c .before .before .before .before .before .args .root) (omega arith)))
+    (omega (arith, put .after), omega (arith, put .after, root-short (c .before .before .before .before .before .args .root) (omega arith)))
 
 pub root-length-spec : {M : Type 1} → statement M
 root-length-spec =

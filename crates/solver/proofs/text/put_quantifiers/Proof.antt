@@ -12,11 +12,11 @@ use Rattle.solver.proofs.text.put_quantifiers.Statement.{statement}
 use Rattle.solver.proofs.text.put_quantifiers.Tie as tie
 
 abbrev Inv-loop : tie.InvT-loop
-Inv-loop words out₀ at first quantifiers here₀ i₀ out here i =
-    (i ≤ quantifiers) × (Room out here (quantifierLines i (drop i (claimOf words .quantifiers))) × Rest out here (quantifierLines i (drop i (claimOf words .quantifiers))) out₀ at (quantifierLines 0 (claimOf words .quantifiers)))
+Inv-loop words out₀ at first quantifiers here₀ j₀ out here j =
+    (j ≤ quantifiers) × (Room out here (quantifierLines j (drop j (claimOf words .quantifiers))) × Rest out here (quantifierLines j (drop j (claimOf words .quantifiers))) out₀ at (quantifierLines 0 (claimOf words .quantifiers)))
 
 abbrev μ-loop : tie.MeasureT-loop
-μ-loop words out₀ at first quantifiers here₀ i₀ out here i = quantifiers - i
+μ-loop words out₀ at first quantifiers here₀ j₀ out here j = quantifiers - j
 
 mul-first : tie.Need-mul-first Inv-loop μ-loop
 mul-first c = omega (arith, c .before .before .pre .0 .few-nodes)
@@ -37,12 +37,12 @@ put-quantifier-requires c κs =
     let loop = c .before .before .before .loop in
     let start = c .before .before .before .before .before .before in
     let laid = start .pre .0 in
-    let less : loop .i < length (claimOf (start .args .words .now) .quantifiers) = omega (arith, laid .quantifiers, c .before .before .loop-test .taken) in
-    let step = quantifier-step (start .args .words .now) (start .args .shape .nodes) (loop .i) (laid .nodes) less (c .before .word .ensures) in
+    let less : loop .j < length (claimOf (start .args .words .now) .quantifiers) = omega (arith, laid .quantifiers, c .before .before .loop-test .taken) in
+    let step = quantifier-step (start .args .words .now) (start .args .shape .nodes) (loop .j) (laid .nodes) less (c .before .word .ensures) in
     room-left _ (rw step at (loop .inv .1 .0))
 
-add-i : tie.Need-add-i Inv-loop μ-loop
-add-i c = omega arith
+add-j : tie.Need-add-j Inv-loop μ-loop
+add-j c = omega arith
 
 loop-less : tie.Need-loop-less Inv-loop μ-loop
 loop-less c = omega arith
@@ -52,8 +52,8 @@ loop-again c =
     let loop = c .before .before .before .before .before .before .loop in
     let start = c .before .before .before .before .before .before .before .before .before in
     let laid = start .pre .0 in
-    let less : loop .i < length (claimOf (start .args .words .now) .quantifiers) = omega (arith, laid .quantifiers, c .before .before .before .before .before .loop-test .taken) in
-    let step = quantifier-step (start .args .words .now) (start .args .shape .nodes) (loop .i) (laid .nodes) less (c .before .before .before .before .word .ensures) in
+    let less : loop .j < length (claimOf (start .args .words .now) .quantifiers) = omega (arith, laid .quantifiers, c .before .before .before .before .before .loop-test .taken) in
+    let step = quantifier-step (start .args .words .now) (start .args .shape .nodes) (loop .j) (laid .nodes) less (c .before .before .before .before .word .ensures) in
     let put = c .before .before .put-quantifier .ensures in
     (omega arith, (room-right (rw step at (loop .inv .1 .0)) put, rest-step step (loop .inv .1 .1) put))
 
@@ -64,7 +64,7 @@ returns : tie.Need-returns Inv-loop μ-loop
 returns c =
     let loop = c .before .loop in
     let start = c .before .before .before .before in
-    rest-end (quantifier-end (claimOf (start .args .words .now) .quantifiers) (loop .i) (omega (arith, start .pre .0 .quantifiers, c .loop-test .left))) (loop .inv .1 .1)
+    rest-end (quantifier-end (claimOf (start .args .words .now) .quantifiers) (loop .j) (omega (arith, start .pre .0 .quantifiers, c .loop-test .left))) (loop .inv .1 .1)
 
 pub put-quantifiers-spec : {M : Type 1} → statement M
 put-quantifiers-spec =
@@ -77,7 +77,7 @@ put-quantifiers-spec =
     add-word
     word-requires
     put-quantifier-requires
-    add-i
+    add-j
     loop-less
     loop-again
     same-length
