@@ -9,6 +9,9 @@ use reducer::Reduced;
 
 mod lines; // the lines of a table, an outcome and a refusal
 
+pub use lines::put_refusal;
+pub use lines::put_unread;
+
 const MAX_BYTES: usize = 65535;
 
 const LARGEST_SIZE: u64 = 4294967295;
@@ -16,7 +19,7 @@ const LARGEST_SIZE: u64 = 4294967295;
 const LARGEST_ALLOWANCE: u64 = 18446744073709551615;
 
 // The words of an input text.
-fn read_input(input: &[u8], words: &mut [i32; 4096]) -> Scanned
+pub fn read_input(input: &[u8], words: &mut [i32; 4096]) -> Scanned
     ensures { λ r. ⌜ r ≡ scannedOf (inputWords (now (input .entry))) ⌝ }
     ensures { λ _. ⌜ now (words .exit) ≡ onto (now (words .entry)) (inputWords (now (input .entry))) ⌝ }
 {

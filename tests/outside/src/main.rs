@@ -1,25 +1,27 @@
 //! The outside tests of Zuccarvento. The first argument is the folder of the
-//! product's programs `reduce` and `decide`; its library is linked in. With
-//! a second argument only the groups with that in their names are run.
+//! product's programs `reduce`, `decide` and `smt`; its library is linked
+//! in, and the solvers z3 and cvc5 are found by the shell's path. With a
+//! second argument only the groups with that in their names are run.
 //!
 //! One line per group tells how many comparisons it made; the last line is
 //! their sum. What one comparison is, `cases/tally.rs` says.
 
 mod cases;
 mod engine;
+mod solver;
 mod watch;
 
 use cases::tally::Tally;
 use cases::{
-    bounds, decisions, examples, exhaustive, figures, limits, ourselves, programs, rows, stack,
-    streams, tables, truth,
+    bounds, decisions, examples, exhaustive, figures, limits, ourselves, programs, rows,
+    solver_texts, solvers, stack, streams, tables, truth,
 };
 use engine::Programs;
 
 fn main() -> std::process::ExitCode {
     let Some(folder) = std::env::args_os().nth(1) else {
         eprintln!(
-            "usage: outside FOLDER [PART], where FOLDER holds the programs reduce and decide"
+            "usage: outside FOLDER [PART], where FOLDER holds the programs reduce, decide and smt"
         );
         return std::process::ExitCode::from(2);
     };
@@ -41,6 +43,7 @@ fn without_product(tally: &mut Tally) {
     tally.group("tests themselves: search against trying all", ourselves::searches);
     tally.group("tests themselves: lengths of emissions", ourselves::lengths);
     tally.group("tests themselves: texts", ourselves::texts);
+    tally.group("tests themselves: texts for a solver", solver_texts::with_ourselves);
 }
 
 fn through_library(tally: &mut Tally) {
@@ -74,4 +77,6 @@ fn through_programs(tally: &mut Tally, folder: &Programs) {
     tally.group("programs: arguments", |tally| programs::arguments(tally, folder));
     tally.group("programs: long outputs", |tally| programs::long_outputs(tally, folder));
     tally.group("programs: streams that fail", |tally| streams::run(tally, folder));
+    tally.group("programs: texts for a solver", |tally| solver_texts::run(tally, folder));
+    tally.group("solvers", |tally| solvers::run(tally, folder));
 }

@@ -123,7 +123,7 @@ pub fn long_outputs(tally: &mut Tally, programs: &Programs) {
 /// A claim with an emission of exactly so many words. Its quantifiers make
 /// up what three words per node cannot, its cardinalities come to 31 nodes
 /// each, and constants fill up the rest.
-fn emitting(length: usize) -> Vec<i32> {
+pub fn emitting(length: usize) -> Vec<i32> {
     let mut quantifiers = vec![3, 4, 3, 4];
     // Four sets become 2 + 4 + 8 + 16 counts.
     let node_words = |others: usize| length - 4 - 30 - others;

@@ -22,6 +22,10 @@ const FAILING: [(&str, &str); 7] = [
     ("</dev/null >&-", "standard output"),
 ];
 
+/// The programs with arguments; without, `decide` refuses.
+const PROGRAMS: [(&str, &[&str]); 4] =
+    [("reduce", &[]), ("decide", &["3", "9"]), ("decide", &[]), ("smt", &[])];
+
 /// The signal of a pipe that nobody reads.
 const PIPE: i32 = 13;
 
@@ -36,7 +40,7 @@ fn shown(ended: Ended, expected: &str) -> Shown {
 
 pub fn run(tally: &mut Tally, programs: &Programs) {
     let text = spaced(&ONE_ELEMENT);
-    for (program, arguments) in [("reduce", &[][..]), ("decide", &["3", "9"]), ("decide", &[])] {
+    for (program, arguments) in PROGRAMS {
         let mut ends = |shell: &str, out: Stdio, status: Result<i32, i32>, says: &str| {
             let found = programs.in_shell(program, arguments, shell, text.as_bytes(), out);
             let expected = (status, String::new(), says.to_string());

@@ -1,0 +1,2 @@
+-- What the program `smt` prints, as text.
+pub mod Answer
