@@ -1,6 +1,6 @@
 -- A text held against bytes: two runs one after the other are one of both, and the text's end tells whether it was all. Assumes nothing.
 use mathlib.Core.Path.{_≡_, refl, sym, ap, _∙_}
-use mathlib.Core.Bool.{Bool, true, false, cond, _&&_, true≢false}
+use mathlib.Core.Bool.{Bool, true, false, cond, _&&_, and-eq-true-iff, true≢false}
 use mathlib.Core.List.{List, [], _∷_, _++_}
 use Prim.Native.Nat.{ℕ, zero, suc, _+_, _-_, _≤_, _<_}
 use Prim.Native.Char.{code}
@@ -12,13 +12,9 @@ use lib.Dec.{eqb, eqb·suc-suc}
 use lib.ListN.{length, getD, drop, length-append, drop-of-length-le}
 use lib.Seq.{drop-drop, drop-cons}
 use Rattle.sentence.specs.Lines.{closing}
-use Rattle.reader.specs.declared.Passed.{Passed}
-use Rattle.reader.specs.declared.Passed.the-variants.{To, Differs}
+use Rattle.reader.specs.declared.passing.Passed.{Passed}
+use Rattle.reader.specs.declared.passing.Passed.the-variants.{To, Differs}
 use Rattle.reader.specs.Passing.{begins, passed, reaches, same}
-
-and-split : (a b : Bool) → (a && b) ≡ true → (a ≡ true) × (b ≡ true)
-and-split true b h = (refl, h)
-and-split false b h = absurd (true≢false (sym h))
 
 -- ---- byte by byte
 
@@ -26,7 +22,7 @@ pub begins-long : (bs text : List ℕ) → begins bs text ≡ true → length bs
 unfolding begins
 begins-long [] text h = omega arith
 begins-long (b ∷ bs) [] h = absurd (true≢false (sym h))
-begins-long (b ∷ bs) (x ∷ xs) h = let l = begins-long bs xs (and-split (eqb x b) (begins bs xs) h .1) in omega arith
+begins-long (b ∷ bs) (x ∷ xs) h = let l = begins-long bs xs (and-eq-true-iff (eqb x b) (begins bs xs) .0 h .1) in omega arith
 
 pub begins-short : (bs text : List ℕ) → length text < length bs → begins bs text ≡ false
 begins-short bs text h = other (begins bs text) (begins-long bs text)
@@ -153,7 +149,7 @@ same-true [] [] h = refl
 same-true [] (x ∷ xs) h = absurd (true≢false (sym h))
 same-true (b ∷ bs) [] h = absurd (true≢false (sym h))
 same-true (b ∷ bs) (x ∷ xs) h =
-    let (e, f) = and-split (eqb x b) (same bs xs) h in
+    let (e, f) = and-eq-true-iff (eqb x b) (same bs xs) .0 h in
     rw (eqb-true x b e, same-true bs xs f)
 
 pub same-refl : (bs : List ℕ) → same bs bs ≡ true

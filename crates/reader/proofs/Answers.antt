@@ -1,7 +1,7 @@
 -- The reader's answer is the claim that the writer takes and that has the text, and 21 where there is none. Assumes nothing.
 use mathlib.Core.Path.{_≡_, refl, sym, ap, _∙_}
 use mathlib.Core.Logic.{_⊎_, inl, inr}
-use mathlib.Core.Bool.{Bool, true, false, cond, _&&_, true≢false}
+use mathlib.Core.Bool.{Bool, true, false, cond, _&&_, and-eq-true-iff, true≢false}
 use mathlib.Core.List.{List, [], _∷_, _++_, map}
 use Prim.Native.Nat.{ℕ, _≤_, _<_}
 use native.Mathlib.Omega.{arith}
@@ -29,7 +29,7 @@ use Rattle.reader.specs.declared.Read.the-variants.{Words, Refused}
 use Rattle.reader.specs.Held.{inWords, held}
 use Rattle.reader.specs.Passing.{same}
 use Rattle.reader.specs.Runs.{limits}
-use Rattle.reader.specs.Answer.{accepts, takes, Taken, writes, given, answer, readOf, heldAfter, outAfter}
+use Rattle.reader.specs.Answer.{accepts, takes, WriterTakes, writes, given, answer, readOf, heldAfter, outAfter}
 use Rattle.reader.proofs.Words.{all-held-in, all-held, fields-small}
 use Rattle.reader.proofs.Agrees.{same-true, same-refl}
 
@@ -37,10 +37,6 @@ use Rattle.reader.proofs.Agrees.{same-true, same-refl}
 
 both : {a b : Bool} → a ≡ true → b ≡ true → (a && b) ≡ true
 both e f = rw (e, f)
-
-parts : (a b : Bool) → (a && b) ≡ true → (a ≡ true) × (b ≡ true)
-parts true b h = (refl, h)
-parts false b h = absurd (true≢false (sym h))
 
 alike : (a b : Bool) → (a ≡ true → b ≡ true) → (b ≡ true → a ≡ true) → a ≡ b
 alike true b f g = sym (f refl)
@@ -60,22 +56,22 @@ plain-nodes : (ns : List Node) → KindsTaken Emitted ns → AllPlain ns
 plain-nodes [] t = tt
 plain-nodes (n ∷ ns) (e, es) = (e, plain-nodes ns es)
 
-takes-parts : (c : Claim) → Taken c → (inWords (wordsOf c) ≡ true) × (accepts (checkAs Emitted (wordsOf c)) ≡ true)
+takes-parts : (c : Claim) → WriterTakes c → (inWords (wordsOf c) ≡ true) × (accepts (checkAs Emitted (wordsOf c)) ≡ true)
 unfolding takes
-takes-parts c t = parts (inWords (wordsOf c)) (accepts (checkAs Emitted (wordsOf c))) t
+takes-parts c t = and-eq-true-iff (inWords (wordsOf c)) (accepts (checkAs Emitted (wordsOf c))) .0 t
 
-claimed : (c : Claim) → Taken c → (s : Shape) × ClaimedAs Emitted (wordsOf c) s
+claimed : (c : Claim) → WriterTakes c → (s : Shape) × ClaimedAs Emitted (wordsOf c) s
 claimed c t =
     let (s, e) = accepted (checkAs Emitted (wordsOf c)) (takes-parts c t .1) in
     (s, accepted-claim-as Emitted (wordsOf c) s e)
 
-pub taken-plain : (c : Claim) → Taken c → Plain c
+pub taken-plain : (c : Claim) → WriterTakes c → Plain c
 taken-plain c t =
     let a = claimed c t .1 in
     let p : Plain (claimOf (wordsOf c)) = record { nodes = plain-nodes (claimOf (wordsOf c) .nodes) (a .taken .nodes); quantifiers = no-sets (claimOf (wordsOf c) .quantifiers) (a .taken .quantifiers) } in
     rw (claim-words c) at p
 
-pub taken-within : (c : Claim) → Taken c → Within limits c
+pub taken-within : (c : Claim) → WriterTakes c → Within limits c
 unfolding wordsOf
 taken-within c t =
     let a = claimed c t .1 in
@@ -92,43 +88,43 @@ taken-within c t =
 
 module _ (text : List ℕ) where
   -- The claim that the writer takes and that has this text, if there is one, is what is scanned.
-  scanned-reads : (c : Claim) → Reads Taken text c → Reads Taken text (scan limits text)
-  scanned-reads = reads-scan Taken taken-plain text limits taken-within
+  scanned-reads : (c : Claim) → Reads WriterTakes text c → Reads WriterTakes text (scan limits text)
+  scanned-reads = reads-scan WriterTakes taken-plain text limits taken-within
 
-  scanned-is : (c : Claim) → Reads Taken text c → scan limits text ≡ c
-  scanned-is c r = reads-once Taken taken-plain text (scan limits text) c (scanned-reads c r) r
+  scanned-is : (c : Claim) → Reads WriterTakes text c → scan limits text ≡ c
+  scanned-is c r = reads-once WriterTakes taken-plain text (scan limits text) c (scanned-reads c r) r
 
-  answer-given : (c : Claim) → Reads Taken text c → (room : ℕ) → answer c text room ≡ given c room
+  answer-given : (c : Claim) → Reads WriterTakes text c → (room : ℕ) → answer c text room ≡ given c room
   unfolding answer
   answer-given c (t, e) room = rw (t, same-is e)
 
   -- A text that the writer can have written is answered by its claim.
-  pub read-given : (c : Claim) → Reads Taken text c → (room : ℕ) → readOf text room ≡ given c room
+  pub read-given : (c : Claim) → Reads WriterTakes text c → (room : ℕ) → readOf text room ≡ given c room
   unfolding readOf
   read-given c r room = ap (λ d. answer d text room) (scanned-is c r) ∙ answer-given c r room
 
   -- And its words are in the output slice, if that has room.
-  pub out-given : (c : Claim) → Reads Taken text c → (out : List ℤ) → outAfter text out ≡ heldAfter (given c (length out)) c out
+  pub out-given : (c : Claim) → Reads WriterTakes text c → (out : List ℤ) → outAfter text out ≡ heldAfter (given c (length out)) c out
   unfolding outAfter
   out-given c r out = rw (read-given c r (length out), scanned-is c r)
 
   -- Every text is one that the writer can have written, or it is answered by 21.
-  pub read-or-21 : ((c : Claim) × Reads Taken text c) ⊎ ((room : ℕ) → readOf text room ≡ Refused (refusal 21 0))
+  pub read-or-21 : ((c : Claim) × Reads WriterTakes text c) ⊎ ((room : ℕ) → readOf text room ≡ Refused (refusal 21 0))
   unfolding readOf answer
   read-or-21 = at (takes (scan limits text) && same (textOf (scan limits text)) text) refl
     where
       at : (b : Bool) → (takes (scan limits text) && same (textOf (scan limits text)) text) ≡ b
-          → ((c : Claim) × Reads Taken text c) ⊎ ((room : ℕ) → cond (takes (scan limits text) && same (textOf (scan limits text)) text) (given (scan limits text) room) (Refused (refusal 21 0)) ≡ Refused (refusal 21 0))
+          → ((c : Claim) × Reads WriterTakes text c) ⊎ ((room : ℕ) → cond (takes (scan limits text) && same (textOf (scan limits text)) text) (given (scan limits text) room) (Refused (refusal 21 0)) ≡ Refused (refusal 21 0))
       at true e =
-          let (t, s) = parts (takes (scan limits text)) (same (textOf (scan limits text)) text) e in
+          let (t, s) = and-eq-true-iff (takes (scan limits text)) (same (textOf (scan limits text)) text) .0 e in
           inl (scan limits text, (t, same-true (textOf (scan limits text)) text s))
       at false e = inr (λ room. rw e)
 
   -- A text that the writer cannot have written is refused by 21.
-  pub read-none : ((c : Claim) → Reads Taken text c → ⊥) → (room : ℕ) → readOf text room ≡ Refused (refusal 21 0)
+  pub read-none : ((c : Claim) → Reads WriterTakes text c → ⊥) → (room : ℕ) → readOf text room ≡ Refused (refusal 21 0)
   read-none n room = at read-or-21
     where
-      at : ((c : Claim) × Reads Taken text c) ⊎ ((room : ℕ) → readOf text room ≡ Refused (refusal 21 0)) → readOf text room ≡ Refused (refusal 21 0)
+      at : ((c : Claim) × Reads WriterTakes text c) ⊎ ((room : ℕ) → readOf text room ≡ Refused (refusal 21 0)) → readOf text room ≡ Refused (refusal 21 0)
       at (inl (c, r)) = absurd (n c r)
       at (inr f) = f room
 
@@ -140,15 +136,15 @@ module _ (text : List ℕ) where
   -- ---- the words that were put
 
   -- Words that the writer takes and writes as this text are a claim that it takes, and that has this text.
-  written-reads : (ws : List ℤ) → inWords ws ≡ true → writes ws text ≡ true → Reads Taken text (claimOf ws)
+  written-reads : (ws : List ℤ) → inWords ws ≡ true → writes ws text ≡ true → Reads WriterTakes text (claimOf ws)
   unfolding writes takes
   written-reads ws i h =
-      let (k, e) = parts (accepts (checkAs Emitted ws)) (same (textOf (claimOf ws)) text) h in
+      let (k, e) = and-eq-true-iff (accepts (checkAs Emitted ws)) (same (textOf (claimOf ws)) text) .0 h in
       let (s, f) = accepted (checkAs Emitted ws) k in
       let w = accepted-claim-as Emitted ws s f .words in
       (rw w (both i k), same-true (textOf (claimOf ws)) text e)
 
-  reads-written : (c : Claim) → Reads Taken text c → writes (map held (wordsOf c)) text ≡ true
+  reads-written : (c : Claim) → Reads WriterTakes text c → writes (map held (wordsOf c)) text ≡ true
   unfolding writes
   reads-written c (t, e) =
       let (i, k) = takes-parts c t in
@@ -159,7 +155,7 @@ module _ (text : List ℕ) where
       let c = scan limits text in
       alike (writes (map held (wordsOf c)) text) (takes c && same (textOf c) text)
       (λ h. let (t, e) = scanned-reads _ (written-reads (map held (wordsOf c)) (all-held-in (wordsOf c)) h) in both t (same-is e))
-      (λ h. let (t, s) = parts (takes c) (same (textOf c) text) h in reads-written c (t, same-true (textOf c) text s))
+      (λ h. let (t, s) = and-eq-true-iff (takes c) (same (textOf c) text) .0 h in reads-written c (t, same-true (textOf c) text s))
 
   module _ (ws : List ℤ) (e : ws ≡ map held (wordsOf (scan limits text))) where
     told : (b : Bool) → writes ws text ≡ b → (takes (scan limits text) && same (textOf (scan limits text)) text) ≡ b
@@ -186,9 +182,22 @@ module _ (text : List ℕ) where
 
     words-are : writes ws text ≡ true → ws ≡ wordsOf (scan limits text)
     words-are h =
-        let (t, s) = parts (takes (scan limits text)) (same (textOf (scan limits text)) text) (told true h) in
+        let (t, s) = and-eq-true-iff (takes (scan limits text)) (same (textOf (scan limits text)) text) .0 (told true h) in
         e ∙ all-held (wordsOf (scan limits text)) (takes-parts (scan limits text) t .0)
 
     pub out-answered : writes ws text ≡ true → (out : List ℤ) → length ws ≤ length out → ws ++ drop (length ws) out ≡ outAfter text out
     unfolding outAfter heldAfter
     out-answered h out l = rw (answered h (length out) l) (ap (λ v. v ++ drop (length ws) out) (words-are h))
+
+-- ---- there and back
+
+-- What the writer writes for words that it takes is read as those words.
+pub read-back : (ws : List ℤ) (s : Shape) → inWords ws ≡ true → checkAs Emitted ws ≡ checked.Accepted s → (out : List ℤ) → length ws ≤ length out
+    → (readOf (textOf (claimOf ws)) (length out) ≡ Words (length ws)) × (outAfter (textOf (claimOf ws)) out ≡ ws ++ drop (length ws) out)
+unfolding takes given heldAfter
+read-back ws s i e out l =
+    let c = claimOf ws in
+    let w = accepted-claim-as Emitted ws s e .words in
+    let t : WriterTakes c = rw (w, i, e) in
+    let room : given c (length out) ≡ Words (length ws) = rw (w, le-ltb (length out) (length ws) l) in
+    (read-given (textOf c) c (t, refl) (length out) ∙ room, out-given (textOf c) c (t, refl) out ∙ rw (room, w))

@@ -14,7 +14,7 @@ use Rattle.sentence.specs.Lines.{opening}
 use Rattle.sentence.specs.Scan.{is, Found, found, before, Limits, numberFrom, lineFrom, nodesFrom, quantifierFrom, quantifiersFrom, scan}
 use Rattle.scanner.specs.declared.Numeral.{Numeral}
 use Rattle.scanner.specs.Places.{most, At, NumeralAt}
-use Rattle.reader.specs.declared.Run.{Run}
+use Rattle.reader.specs.declared.table.Run.{Run}
 use Rattle.reader.specs.Held.{held}
 use Rattle.reader.specs.Runs.{limits, mostWords, trailerWords, RunPut}
 use Rattle.reader.proofs.Fronts.{front-is}

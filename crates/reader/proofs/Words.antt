@@ -1,6 +1,6 @@
 -- What words hold. Assumes nothing.
-use mathlib.Core.Path.{_≡_, refl, sym}
-use mathlib.Core.Bool.{Bool, true, false, cond, _&&_, true≢false}
+use mathlib.Core.Path.{_≡_, refl}
+use mathlib.Core.Bool.{Bool, true, false, cond, _&&_, and-eq-true-iff}
 use mathlib.Core.List.{List, [], _∷_, _++_, map}
 use Prim.Native.Nat.{ℕ, zero, suc, _≤_, _<_}
 use native.Mathlib.Omega.{arith}
@@ -33,10 +33,6 @@ held-over n h = rw (lt-leb n mostPositive h)
 
 -- ---- lists
 
-and-true : (a b : Bool) → (a && b) ≡ true → (a ≡ true) × (b ≡ true)
-and-true true b h = (refl, h)
-and-true false b h = absurd (true≢false (sym h))
-
 held-in : (z : ℤ) → inWord (held z) ≡ true
 unfolding held
 held-in z = pick (inWord z) refl
@@ -54,7 +50,7 @@ pub all-held : (zs : List ℤ) → inWords zs ≡ true → map held zs ≡ zs
 unfolding inWords held
 all-held [] h = refl
 all-held (z ∷ zs) h =
-    let (e, f) = and-true (inWord z) (inWords zs) h in
+    let (e, f) = and-eq-true-iff (inWord z) (inWords zs) .0 h in
     rw (e, all-held zs f)
 
 -- ---- the fields of nodes
@@ -68,7 +64,7 @@ pub fields-small : (ns : List Node) (rest : List ℤ) → inWords (nodesWords ns
 unfolding inWords nodesWords nodeWords
 fields-small [] rest h = tt
 fields-small (n ∷ ns) rest h =
-    let (k, f) = and-true (inWord (pos (fieldsOf n .kind))) (inWord (fieldsOf n .a) && (inWord (fieldsOf n .b) && inWords (nodesWords ns ++ rest))) h in
-    let (a, g) = and-true (inWord (fieldsOf n .a)) (inWord (fieldsOf n .b) && inWords (nodesWords ns ++ rest)) f in
-    let (b, l) = and-true (inWord (fieldsOf n .b)) (inWords (nodesWords ns ++ rest)) g in
+    let (k, f) = and-eq-true-iff (inWord (pos (fieldsOf n .kind))) (inWord (fieldsOf n .a) && (inWord (fieldsOf n .b) && inWords (nodesWords ns ++ rest))) .0 h in
+    let (a, g) = and-eq-true-iff (inWord (fieldsOf n .a)) (inWord (fieldsOf n .b) && inWords (nodesWords ns ++ rest)) .0 f in
+    let (b, l) = and-eq-true-iff (inWord (fieldsOf n .b)) (inWords (nodesWords ns ++ rest)) .0 g in
     (small (fieldsOf n .a) a, small (fieldsOf n .b) b, fields-small ns rest l)

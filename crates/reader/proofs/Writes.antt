@@ -16,8 +16,8 @@ use Rattle.sentence.specs.Text.{textOf}
 use Rattle.sentence.specs.Lines.{opening, ending, nodeLines, quantifierLines, brackets, closing}
 use Rattle.solver.specs.Laid.{rootLine}
 use Rattle.solver.proofs.Whole.{text-parts}
-use Rattle.reader.specs.declared.Passed.{Passed}
-use Rattle.reader.specs.declared.Passed.the-variants.{To}
+use Rattle.reader.specs.declared.passing.Passed.{Passed}
+use Rattle.reader.specs.declared.passing.Passed.the-variants.{To}
 use Rattle.reader.specs.Passing.{passed, reaches, same}
 use Rattle.reader.specs.Answer.{writes}
 use Rattle.reader.proofs.Agrees.{passed-then, reaches-same}

@@ -32,8 +32,8 @@ accepts (checked.Refused r) = false
 unfoldable pub takes : Claim → Bool
 takes c = inWords (wordsOf c) && accepts (checkAs Emitted (wordsOf c))
 
-abbrev pub Taken : Claim → Type 0
-Taken c = takes c ≡ true
+abbrev pub WriterTakes : Claim → Type 0
+WriterTakes c = takes c ≡ true
 
 -- The writer takes the words ws, and writes this text.
 unfoldable pub writes : List ℤ → List ℕ → Bool

@@ -4,8 +4,8 @@ use mathlib.Core.List.{List, [], _∷_}
 use Prim.Native.Nat.{ℕ, _+_}
 use lib.Dec.{eqb}
 use lib.ListN.{length, drop}
-use Rattle.reader.specs.declared.Passed.{Passed}
-use Rattle.reader.specs.declared.Passed.the-variants.{To, Differs}
+use Rattle.reader.specs.declared.passing.Passed.{Passed}
+use Rattle.reader.specs.declared.passing.Passed.the-variants.{To, Differs}
 
 -- the text begins with the bytes bs
 unfoldable pub begins : List ℕ → List ℕ → Bool

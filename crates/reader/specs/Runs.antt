@@ -5,21 +5,23 @@ use mathlib.Core.List.{List, [], _∷_, map}
 use Prim.Native.Nat.{ℕ, _+_, _*_}
 use lib.IntN.{ℤ, pos}
 use lib.ListN.{length}
+use Rattle.checker.specs.declared.Dialect.the-variants.{Emitted}
 use Rattle.checker.specs.Words.{mark}
+use Rattle.checker.specs.Dialect.{mostNodes, mostQuantifiers}
 use Rattle.lent.specs.Write.{Wrote}
 use Rattle.sentence.specs.Scan.{Found, Limits}
 use Rattle.scanner.specs.declared.Line.{Line}
 use Rattle.scanner.specs.Places.{most, At, signed}
-use Rattle.reader.specs.declared.Run.{Run}
+use Rattle.reader.specs.declared.table.Run.{Run}
 use Rattle.reader.specs.Held.{held}
 
 -- The nodes and quantifiers of the largest claim that the writer takes.
 abbrev pub limits : Limits
-limits = record { nodes = 136576; quantifiers = 152; number = most }
+limits = record { nodes = mostNodes Emitted; quantifiers = mostQuantifiers Emitted; number = most }
 
 -- the words of such a claim
 abbrev pub mostWords : ℕ
-mostWords = 409884
+mostWords = 3 * mostNodes Emitted + mostQuantifiers Emitted + 4
 
 -- the words of a line's node
 abbrev pub lineWords : Line → List ℤ

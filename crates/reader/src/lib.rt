@@ -16,20 +16,12 @@ use checker::Refusal;
 mod passing; // a text held against what the writer would write
 mod table; // the words of the claim that a text is scanned as
 
-// The words of the largest claim that the writer takes.
-const MOST_WORDS: usize = 409884;
+// The most nodes and quantifiers that the writer takes, and the words of such a claim.
+const MOST_NODES: usize = 136576;
 
-// How many things a run has, and the place after it.
-pub struct Run {
-    pub count: usize,
-    pub next: usize,
-}
+const MOST_QUANTIFIERS: usize = 152;
 
-// The place to which a text is as it should be.
-pub enum Passed {
-    To(usize),
-    Differs,
-}
+const MOST_WORDS: usize = 3 * MOST_NODES + MOST_QUANTIFIERS + 4;
 
 // How many words were read, or a refusal.
 pub enum Read {

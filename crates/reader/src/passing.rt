@@ -9,11 +9,16 @@ ghost use Rattle.sentence.specs.Lines.{nodeLine, nodeLines, quantifierLine, qua
 ghost use Rattle.sentence.specs.Text.{textOf};
 ghost use Rattle.solver.specs.Laid.{Laid, rootLine};
 ghost use Rattle.reader.specs.Passing.{begins, passed, reaches, same};
-use crate::Passed;
 use checker::Shape;
 
 // No line of a node, and no lines of a quantifier, are longer.
 const LINE: usize = 64;
+
+// The place to which a text is as it should be.
+pub enum Passed {
+    To(usize),
+    Differs,
+}
 
 // What stands from a place on; nothing past the end.
 fn rest(text: &[u8], at: usize) -> &[u8]

@@ -12,12 +12,9 @@ ghost use Rattle.sentence.specs.Scan.{nodesFrom, quantifiersFrom, scan};
 ghost use Rattle.scanner.specs.Places.{most, signed};
 ghost use Rattle.reader.specs.Held.{held};
 ghost use Rattle.reader.specs.Runs.{limits, mostWords, lineWords, trailerWords, RunPut};
-use crate::Run;
+use crate::MOST_NODES;
+use crate::MOST_QUANTIFIERS;
 use scanner::Line;
-
-const MOST_NODES: usize = 136576;
-
-const MOST_QUANTIFIERS: usize = 152;
 
 const MARK: u64 = 2005;
 
@@ -66,6 +63,12 @@ fn put_node(words: &mut [i32], at: usize, node: Line) -> usize
     let a = put_word(words, at, false, node.kind as u64);
     let b = put_word(words, a, node.minus, node.a);
     put_word(words, b, false, node.b)
+}
+
+// How many things a run has, and the place after it.
+pub struct Run {
+    pub count: usize,
+    pub next: usize,
 }
 
 // The nodes whose lines stand from a place on.

@@ -3,12 +3,14 @@ use mathlib.Core.Path.{_≡_, refl, sym, ap, _∙_}
 use mathlib.Core.Bool.{Bool, false}
 use mathlib.Core.List.{List}
 use Prim.Native.Nat.{ℕ}
+use borrow.Author.Tests.{ne-eqb}
+use lib.Dec.{eqb}
 use lib.IntN.{pos}
 use lib.ListN.{drop}
 use Rattle.checker.specs.Claim.{Node, divided}
 use Rattle.sentence.specs.Scan.{Found, numberFrom}
 use Rattle.scanner.specs.declared.Numeral.{Numeral}
-use Rattle.scanner.specs.declared.Pair.{Pair}
+use Rattle.scanner.specs.declared.places.Pair.{Pair}
 use Rattle.scanner.specs.declared.Line.{Line}
 use Rattle.scanner.specs.Places.{most, signed, At, NumeralAt, PairAt, LineAt, TwoFields, OneField, twoAt, oneAt}
 
@@ -35,6 +37,10 @@ pair-there between after f n = rw (f .rest) n
 
 pub told : {r b v : Bool} → r ≡ b → r ≡ v → b ≡ v
 told e t = sym e ∙ t
+
+-- r is b, and is not k
+pub differs : {r b : ℕ} (k : ℕ) → r ≡ b → (r ≡ k → ⊥) → eqb b k ≡ false
+differs {r} {b} k e d = ne-eqb b k (λ f. d (e ∙ f))
 
 module _ {text : List ℕ} where
   pub two-line : {bs : List ℕ} {p : Pair} (between after : ℕ) → PairAt text bs between after p → (kind : ℕ) (minus : Bool) (f : ℕ → ℕ → Node) → TwoFields kind minus f

@@ -8,15 +8,16 @@ use lib.IntN.{ℤ, pos, negℤ}
 use lib.ListN.{length, drop}
 use Rattle.checker.specs.Claim.{Node, Quantifier}
 use Rattle.checker.specs.Words.{fields, fieldsOf, quantifierWord}
+use Rattle.decimal.specs.Reading.{mostNegative}
 use Rattle.sentence.specs.Scan.{Found, found, numberFrom}
 use Rattle.scanner.specs.declared.Numeral.{Numeral}
-use Rattle.scanner.specs.declared.Pair.{Pair}
+use Rattle.scanner.specs.declared.places.Pair.{Pair}
 use Rattle.scanner.specs.declared.Line.{Line}
 use Rattle.scanner.specs.declared.Bound.{Bound}
 
--- A number over this, the largest that a word's digits say, is told from others no more.
+-- Numbers over this, the largest that a word's digits say, are not told apart.
 abbrev pub most : ℕ
-most = 2147483648
+most = mostNegative
 
 -- the bytes bs are those of the text from a place on
 pub record At (text bs : List ℕ) (place : ℕ) : Type 0 where

@@ -6,6 +6,7 @@ ghost use Rattle.checker.specs.Claim.{Node, divided};
 ghost use Rattle.sentence.specs.Scan.{minusFrom, timesFrom, equalFrom, andFrom, bracketFrom, exprFrom};
 ghost use Rattle.scanner.specs.Places.{most, signed, LineAt, TwoFields, OneField, twoAt, oneAt};
 use crate::Line;
+use crate::places::byte_at;
 use crate::places::byte_is;
 use crate::places::numeral_at;
 use crate::places::pair_at;
@@ -155,28 +156,17 @@ fn bracket(text: &[u8], at: usize) -> Line
     requires { ⌜ at ≤ length (now text) ⌝ }
     ensures { λ r. ⌜ LineAt (now (text .entry)) (bracketFrom most (drop at (now (text .entry)))) r ⌝ }
 {
-    if byte_is(text, at, 1, b'+') {
-        return two_fields(text, at, 4, 2, SUM, false);
+    let operator = byte_at(text, at, 1);
+    match operator {
+        b'+' => two_fields(text, at, 4, 2, SUM, false),
+        b'-' => minus(text, at),
+        b'*' => times(text, at),
+        b'=' => equal(text, at),
+        b'<' => two_fields(text, at, 4, 2, LESS, false),
+        b'a' => and(text, at),
+        b'o' => two_fields(text, at, 5, 2, OR, false),
+        _ => one_field(text, at, 6, 1, NOT, false),
     }
-    if byte_is(text, at, 1, b'-') {
-        return minus(text, at);
-    }
-    if byte_is(text, at, 1, b'*') {
-        return times(text, at);
-    }
-    if byte_is(text, at, 1, b'=') {
-        return equal(text, at);
-    }
-    if byte_is(text, at, 1, b'<') {
-        return two_fields(text, at, 4, 2, LESS, false);
-    }
-    if byte_is(text, at, 1, b'a') {
-        return and(text, at);
-    }
-    if byte_is(text, at, 1, b'o') {
-        return two_fields(text, at, 5, 2, OR, false);
-    }
-    one_field(text, at, 6, 1, NOT, false)
 }
 
 pub fn expression(text: &[u8], at: usize) -> Line

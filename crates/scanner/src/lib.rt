@@ -16,13 +16,6 @@ pub struct Numeral {
     pub next: usize,
 }
 
-// Two numbers, and the place after them.
-pub struct Pair {
-    pub first: u64,
-    pub second: u64,
-    pub next: usize,
-}
-
 // A node: its kind, the sign and the number of its field a, and its field b; and the place after it.
 pub struct Line {
     pub kind: usize,

@@ -1,4 +1,4 @@
-// Bytes, places and numbers. A place is within the text or at its end; past the end no byte is any other's equal.
+// Bytes, places and numbers. A place is within the text or at its end.
 ghost use mathlib.Core.Path.{_≡_};
 ghost use mathlib.Core.Bool.{true};
 ghost use Prim.Native.Nat.{_+_, _*_, _-_, _≤_, _<_};
@@ -8,19 +8,26 @@ ghost use Rattle.decimal.specs.Reading.{digit};
 ghost use Rattle.sentence.specs.Scan.{grown, numberFrom};
 ghost use Rattle.scanner.specs.Places.{most, At, NumeralAt, PairAt};
 use crate::Numeral;
-use crate::Pair;
 
 const MOST: u64 = 2147483648;
 
-// Whether the byte that is i bytes on from a place is b, which is not 0.
-pub fn byte_is(text: &[u8], at: usize, i: usize, b: u8) -> bool
-    requires { ⌜ (at ≤ length (now text)) × (0 < b) ⌝ }
-    ensures { λ r. ⌜ r ≡ eqb (getD (drop at (now (text .entry))) i 0) b ⌝ }
+// The byte that is i bytes on from a place. Past the end stands a 0.
+pub fn byte_at(text: &[u8], at: usize, i: usize) -> u8
+    requires { ⌜ at ≤ length (now text) ⌝ }
+    ensures { λ r. ⌜ r ≡ getD (drop at (now (text .entry))) i 0 ⌝ }
 {
     if i < text.len() - at {
-        return text[at + i] == b;
+        return text[at + i];
     }
-    false
+    0
+}
+
+// Whether that byte is b.
+pub fn byte_is(text: &[u8], at: usize, i: usize, b: u8) -> bool
+    requires { ⌜ at ≤ length (now text) ⌝ }
+    ensures { λ r. ⌜ r ≡ eqb (getD (drop at (now (text .entry))) i 0) b ⌝ }
+{
+    byte_at(text, at, i) == b
 }
 
 // The place k bytes on, or the end.
@@ -72,6 +79,13 @@ pub fn numeral_at(text: &[u8], at: usize) -> Numeral
         i += 1;
     }
     Numeral { value, next: i }
+}
+
+// Two numbers, and the place after them.
+pub struct Pair {
+    pub first: u64,
+    pub second: u64,
+    pub next: usize,
 }
 
 // The numbers at a place and `between` bytes after the first, and the place `after` bytes behind both.

@@ -19,7 +19,7 @@ loop-holds : tie.Need-loop-holds Inv-loop μ-loop
 loop-holds c = nodes-start _ _ _ _ (c .before .pre .0)
 
 byte-is-requires : tie.Need-byte-is-requires Inv-loop μ-loop
-byte-is-requires c κs = (c .before .loop .inv .inside, omega arith)
+byte-is-requires c κs = c .before .loop .inv .inside
 
 same-length : tie.Need-same-length Inv-loop μ-loop
 same-length c = c .before .before .before .loop .inv .left .words .long

@@ -1,31 +1,13 @@
 -- `scanner::places::byte_is` meets its contract. Assumes nothing.
-use mathlib.Core.Path.{sym, ap, _∙_}
-use native.Mathlib.Omega.{arith}
 use borrow.Author.Needs.{needs}
-use borrow.Author.Tests.{ne-eqb}
-use lib.Dec.{eqb}
-use lib.ListN.{drop, length-drop, List·getD-eq-default}
-use lib.Seq.{getD-drop}
 use Rattle.scanner.proofs.places.byte_is.Statement.{statement}
 use Rattle.scanner.proofs.places.byte_is.Tie as tie
 
-sub-if1 : tie.Need-sub-if1
-sub-if1 c = search needs
-
-add-result : tie.Need-add-result
-add-result c = search needs
-
-shared-slice-read-result : tie.Need-shared-slice-read-result
-shared-slice-read-result c = search needs
+byte-at-requires : tie.Need-byte-at-requires
+byte-at-requires c κs = search needs
 
 returns : tie.Need-returns
-returns c = rw getD-drop
-
-returns-2 : tie.Need-returns-2
-returns-2 c =
-    let a = c .before .args in
-    let e = List·getD-eq-default (drop (a .at) (a .text .now)) 0 {n = a .i} (rw length-drop (c .if1 .left)) in
-    sym (ap (λ x. eqb x (a .b)) e ∙ ne-eqb 0 (a .b) (λ z. omega (arith, c .before .pre .1)))
+returns c = rw (c .byte-at .ensures)
 
 pub byte-is-spec : {M : Type 1} → statement M
-byte-is-spec = tie.close (tie.spec sub-if1 add-result shared-slice-read-result returns returns-2)
+byte-is-spec = tie.close (tie.spec byte-at-requires returns)
