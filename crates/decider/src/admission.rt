@@ -1,35 +1,14 @@
 // What the decider takes: refusals 9 to 11, after those of the checker.
 ghost use mathlib.Core.Path.{_≡_};
-ghost use mathlib.Core.Bool.{true};
 ghost use Prim.Native.Nat.{_<_};
-ghost use lib.ListN.{getD};
 ghost use Rattle.checker.specs.declared.Checked.the-variants.{Accepted};
-ghost use Rattle.checker.specs.Claim.{intQ};
 ghost use Rattle.checker.specs.Words.{claimOf};
-ghost use Rattle.checker.specs.Sorts.{isSetQ};
 ghost use Rattle.checker.specs.Check.{verdict, checkOf};
 ghost use Rattle.decider.specs.Decision.{firstNumber, deciderTests, admission};
 use checker::Checked;
 use checker::Shape;
 
 const MAX_SIZE: u32 = 4096;
-
-const EXISTS_SET: usize = 3;
-
-const FOR_ALL_SETS: usize = 4;
-
-// Whether quantifier i ranges over sets.
-fn over_sets(words: &[i32], shape: Shape, i: usize) -> bool
-    requires { ⌜ checkOf (now words) ≡ Accepted shape ⌝ }
-    requires { ⌜ i < shape .quantifiers ⌝ }
-    ensures { λ r. ⌜ r ≡ isSetQ (getD (claimOf (now (words .entry)) .quantifiers) i (intQ true)) ⌝ }
-{
-    let kind = checker::word(words, 3 * shape.nodes + i);
-    if kind == EXISTS_SET {
-        return true;
-    }
-    kind == FOR_ALL_SETS
-}
 
 // The first quantifier over numbers, or how many quantifiers there are.
 fn first_number(words: &[i32], shape: Shape) -> usize
@@ -39,7 +18,7 @@ fn first_number(words: &[i32], shape: Shape) -> usize
     let quantifiers = shape.quantifiers;
     let mut i = 0;
     while i < quantifiers {
-        if !over_sets(words, shape, i) {
+        if !matrix::patterns::over_sets(words, shape, i) {
             return i;
         }
         i += 1;

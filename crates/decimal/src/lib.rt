@@ -8,6 +8,7 @@ pub use print::put_bytes;
 pub use print::put_decimal;
 pub use print::put_line;
 pub use print::put_word;
+pub use read::negative;
 pub use read::read_number;
 pub use read::read_words;
 

@@ -70,7 +70,8 @@ fn positive(n: u64) -> i32
     n as i32
 }
 
-fn negative(n: u64) -> i32
+// A number below 0.
+pub fn negative(n: u64) -> i32
     requires { ⌜ n ≤ mostNegative ⌝ }
     ensures { λ r. ⌜ r ≡ negℤ (pos n) ⌝ }
 {

@@ -12,7 +12,7 @@ ghost use Rattle.matrix.specs.Entry.{Filled, Beyond};
 use checker::Shape;
 
 // Whether quantifier j ranges over sets.
-fn over_sets(words: &[i32], shape: Shape, j: usize) -> bool
+pub fn over_sets(words: &[i32], shape: Shape, j: usize) -> bool
     requires { ⌜ checkOf (now words) ≡ Accepted shape ⌝ }
     requires { ⌜ j < shape .quantifiers ⌝ }
     ensures { λ r. ⌜ r ≡ isSetQ (getD (claimOf (now (words .entry)) .quantifiers) j (intQ true)) ⌝ }

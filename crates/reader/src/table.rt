@@ -3,10 +3,8 @@
 ghost use mathlib.Core.Path.{_≡_};
 ghost use mathlib.Core.List.{[], _∷_, map};
 ghost use Prim.Native.Nat.{_+_, _*_, _≤_};
-ghost use lib.IntN.{pos, negℤ};
 ghost use lib.ListN.{length, take, drop};
 ghost use Rattle.checker.specs.Words.{nodesWords, quantifierWord, wordsOf};
-ghost use Rattle.decimal.specs.Reading.{mostNegative};
 ghost use Rattle.lent.specs.Write.{Room, Wrote};
 ghost use Rattle.sentence.specs.Scan.{nodesFrom, quantifiersFrom, scan};
 ghost use Rattle.scanner.specs.Places.{most, signed};
@@ -25,20 +23,13 @@ const MOST_NEGATIVE: u64 = 2147483648;
 
 const MOST_POSITIVE: u64 = 2147483647;
 
-fn negative(n: u64) -> i32
-    requires { ⌜ n ≤ mostNegative ⌝ }
-    ensures { λ r. ⌜ r ≡ negℤ (pos n) ⌝ }
-{
-    (0 - n as i64) as i32
-}
-
 // The word of a sign and a number.
 fn word_of(minus: bool, n: u64) -> i32
     ensures { λ r. ⌜ r ≡ held (signed minus n) ⌝ }
 {
     if minus {
         if n <= MOST_NEGATIVE {
-            return negative(n);
+            return decimal::negative(n);
         }
         return 0;
     }

@@ -1,33 +1,26 @@
--- The lent bytes suffice for the text of every emission that the lent words suffice for, since its words are of 32 bits, as all that a slice of
--- words holds. A line has at most 64 bytes, and a node or a quantifier closes at most two brackets. Assumes nothing.
-use mathlib.Core.Path.{_≡_, refl}
-use mathlib.Core.List.{List, [], _∷_}
-use Prim.Native.Nat.{ℕ, zero, suc, _+_, _*_, _≤_, _<_}
+-- The lent bytes suffice for the text of every emission that the lent words suffice for, if its free words fit 32 bits: a line has at most 64 bytes,
+-- and a node or a quantifier closes at most two brackets. Assumes nothing.
+use mathlib.Core.Path.{_≡_}
+use mathlib.Core.List.{List, [], _∷_, _++_}
+use Prim.Native.Nat.{ℕ, suc, _+_, _*_, _≤_, _<_, _^_}
 use native.Mathlib.Nat.{lt-of-le-of-lt}
 use native.Mathlib.Omega.{arith}
-use borrow.Author.Tests.{le-ltb}
 use lib.Dec.{lit<}
-use lib.IntN.{ℤ}
-use lib.ListN.{length, drop, length-append}
-use mir.Syntax.{w32}
-use mir.Val.{SFits}
-use Rattle.checker.specs.declared.Dialect.the-variants as dialect
-use Rattle.checker.specs.declared.Shape.{Shape}
-use Rattle.checker.specs.declared.Checked.the-variants.{Accepted}
-use Rattle.checker.specs.Claim.{Node, Quantifier, intQ, setQ, countQ}
-use Rattle.checker.specs.Words.{word, wordAt, nodeAt, claimOf}
-use Rattle.checker.specs.Check.{checkAs}
-use Rattle.checker.proofs.Accepted.{accepted-claim-as}
+use lib.IntN.{pos}
+use lib.ListN.{length, length-append}
+use Rattle.checker.specs.Claim.{Node, Quantifier, Claim, setVar, empty, whole, union, inter, compl, numVar, const, maxc, sum, diff, multiple, card, equal, less, divided, setEqual, subset, conj, disj, neg, unknown, intQ, setQ, countQ}
+use Rattle.checker.specs.Kinds.{number, nodeOf}
+use Rattle.checker.specs.Words.{wordsOf}
+use Rattle.checker.specs.Sorts.{Fits, AllFit, WellSorted}
+use Rattle.checker.proofs.Words.{words-length}
 use Rattle.sentence.specs.Text.{textOf}
 use Rattle.sentence.specs.Lines.{nodeLine, nodeLines, quantifierLine, quantifierLines, brackets}
 use Rattle.solver.specs.Laid.{rootLine}
-use Rattle.solver.specs.Written.{fitted}
-use Rattle.solver.proofs.Answers.{laid}
 use Rattle.solver.proofs.Short.{line-short, quantifier-short, root-short}
-use Rattle.solver.proofs.Steps.{node-is, node-step, node-end}
 use Rattle.solver.proofs.Whole.{text-length}
 use Rattle.text.specs.Answer.{lentWords}
-use Rattle.smt_text.specs.Answer.{lentBytes, writtenText, emissionText}
+use Rattle.smt_text.specs.Lent.{lentBytes}
+use Rattle.smt_text.proofs.Free.{free, Small, FreeSmall, zero-small}
 
 -- ---- quantifiers
 
@@ -45,48 +38,65 @@ brackets-few (intQ some ∷ qs) = omega (arith, brackets-few qs)
 brackets-few (setQ some ∷ qs) = omega (arith, brackets-few qs)
 brackets-few (countQ some ∷ qs) = omega (arith, brackets-few qs)
 
--- ---- words of 32 bits
+-- ---- nodes
 
--- every word of ws fits 32 bits
-abbrev pub Small : List ℤ → Type 0
-Small ws = (i : ℕ) → SFits w32 (word ws i)
+module _ (qs : List Quantifier) (few : length qs ≤ 152) where
+  -- a node after those that are done
+  module _ (done : List Node) (before : length done ≤ 136576) (i : ℕ) (h : i < 10 ^ 10) where
+    child : (k : ℕ) → k < length done → Small (pos k)
+    child k l = record { sfits = omega arith }
 
-module _ (ws : List ℤ) (small : Small ws) where
-  abbrev nodes : List Node
-  nodes = claimOf ws .nodes
+    bound : (q : ℕ) → q < length qs → Small (pos q)
+    bound q l = record { sfits = omega arith }
 
-  node-short : (i : ℕ) → i < 136576 → length (nodeLine i (nodeAt ws i)) ≤ 64
-  node-short i h =
-      rw (node-is ws i {k = wordAt ws (3 * i)} refl refl refl)
-      (line-short (word ws (3 * i + 1)) (word ws (3 * i + 2)) (small (3 * i + 1)) (small (3 * i + 2)) i (wordAt ws (3 * i)) (lt-of-le-of-lt {m = 136576} (omega arith) (lit< tt)))
+    node-short : (n : Node) → Fits qs done n → Small (free n) → length (nodeLine i n) ≤ 64
+    unfolding nodeOf number
+    node-short (setVar q) f s = line-short (pos q) (pos 0) (bound q (f .0)) s i 1 h
+    node-short empty f s = line-short (pos 0) (pos 0) s s i 2 h
+    node-short whole f s = line-short (pos 0) (pos 0) s s i 3 h
+    node-short (union a b) f s = line-short (pos a) (pos b) (child a (f .0 .0)) (child b (f .1 .0)) i 4 h
+    node-short (inter a b) f s = line-short (pos a) (pos b) (child a (f .0 .0)) (child b (f .1 .0)) i 5 h
+    node-short (compl a) f s = line-short (pos a) (pos 0) (child a (f .0)) s i 6 h
+    node-short (numVar q) f s = line-short (pos q) (pos 0) (bound q (f .0)) s i 10 h
+    node-short (const w) f s = line-short w (pos 0) s zero-small i 11 h
+    node-short maxc f s = line-short (pos 0) (pos 0) s s i 12 h
+    node-short (sum a b) f s = line-short (pos a) (pos b) (child a (f .0 .0)) (child b (f .1 .0)) i 13 h
+    node-short (diff a b) f s = line-short (pos a) (pos b) (child a (f .0 .0)) (child b (f .1 .0)) i 14 h
+    node-short (multiple w b) f s = line-short w (pos b) s (child b (f .0)) i 15 h
+    node-short (card a) f s = line-short (pos a) (pos 0) (child a (f .0)) s i 16 h
+    node-short (equal a b) f s = line-short (pos a) (pos b) (child a (f .0 .0)) (child b (f .1 .0)) i 20 h
+    node-short (less a b) f s = line-short (pos a) (pos b) (child a (f .0 .0)) (child b (f .1 .0)) i 21 h
+    node-short (divided w b) f s = line-short w (pos b) s (child b (f .0)) i 22 h
+    node-short (setEqual a b) f s = line-short (pos a) (pos b) (child a (f .0 .0)) (child b (f .1 .0)) i 23 h
+    node-short (subset a b) f s = line-short (pos a) (pos b) (child a (f .0 .0)) (child b (f .1 .0)) i 24 h
+    node-short (conj a b) f s = line-short (pos a) (pos b) (child a (f .0 .0)) (child b (f .1 .0)) i 25 h
+    node-short (disj a b) f s = line-short (pos a) (pos b) (child a (f .0 .0)) (child b (f .1 .0)) i 26 h
+    node-short (neg a) f s = line-short (pos a) (pos 0) (child a (f .0)) s i 27 h
+    node-short unknown f s = absurd f
 
-  nodes-short : (k i : ℕ) → i + k ≡ length nodes → length nodes ≤ 136576 → length (nodeLines i (drop i nodes)) ≤ 64 * k
-  nodes-short zero i e h = rw (node-end nodes i (omega arith)) (omega arith)
-  nodes-short (suc k) i e h =
-      rw (node-step ws i (omega arith), length-append (nodeLine i (nodeAt ws i)) (nodeLines (i + 1) (drop (i + 1) nodes)))
-      (omega (arith, node-short i (omega arith), nodes-short k (i + 1) (omega arith) h))
+  nodes-short : (ns done : List Node) → AllFit qs done ns → FreeSmall ns → length done + length ns ≤ 136576
+      → length (nodeLines (length done) ns) ≤ 64 * length ns
+  unfolding nodeLines
+  nodes-short [] done f s h = omega arith
+  nodes-short (n ∷ ns) done (f, fs) (s, ss) h =
+      let next : length (done ++ n ∷ []) ≡ suc (length done) = omega (arith, length-append done (n ∷ [])) in
+      let line = node-short done (omega arith) (length done) (lt-of-le-of-lt {m = 136576} (omega arith) (lit< tt)) n f s in
+      let rest = rw next at (nodes-short ns (done ++ n ∷ []) fs ss (omega (arith, next))) in
+      rw (length-append (nodeLine (length done) n) (nodeLines (suc (length done)) ns)) (omega (arith, line, rest))
 
-  module _ (s : Shape) (taken : checkAs dialect.Emitted ws ≡ Accepted s) (few : length ws ≤ lentWords) where
-    enough : length (textOf (claimOf ws)) ≤ lentBytes
-    enough =
-        let l = laid ws s taken in
-        let root = accepted-claim-as dialect.Emitted ws s taken .sorted .1 .0 in
-        let n : length nodes ≤ 136576 = omega (arith, l .nodes, l .few-nodes) in
-        let q : length (claimOf ws .quantifiers) ≤ 152 = omega (arith, l .quantifiers, l .few-quantifiers) in
-        let r : length (rootLine (claimOf ws .root)) ≤ 64 = root-short (claimOf ws .root) (lt-of-le-of-lt {m = 136576} (omega (arith, root)) (lit< tt)) in
-        omega (
-          arith,
-          text-length (claimOf ws),
-          quantifiers-short (claimOf ws .quantifiers) 0 (omega arith),
-          nodes-short (length nodes) 0 (omega arith) n,
-          r,
-          brackets-few (claimOf ws .quantifiers),
-          l .nodes,
-          l .quantifiers,
-          l .long,
-        )
+-- ---- the whole
 
-    -- no refusal stands in the text's place
-    pub text-whole : emissionText (claimOf ws) ≡ textOf (claimOf ws)
-    unfolding emissionText fitted writtenText
-    text-whole = rw (le-ltb lentBytes (length (textOf (claimOf ws))) enough)
+module _ (c : Claim) (sorted : WellSorted c) (n : length (c .nodes) ≤ 136576) (q : length (c .quantifiers) ≤ 152) (small : FreeSmall (c .nodes)) where
+  pub enough : length (wordsOf c) ≤ lentWords → length (textOf c) ≤ lentBytes
+  enough h =
+      let root : length (rootLine (c .root)) ≤ 64 = root-short (c .root) (lt-of-le-of-lt {m = 136576} (omega (arith, sorted .1 .0)) (lit< tt)) in
+      let lines = nodes-short (c .quantifiers) q (c .nodes) [] (sorted .0) small (omega arith) in
+      omega (
+        arith,
+        text-length c,
+        quantifiers-short (c .quantifiers) 0 (omega arith),
+        lines,
+        root,
+        brackets-few (c .quantifiers),
+        words-length c,
+      )

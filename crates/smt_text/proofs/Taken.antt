@@ -21,7 +21,7 @@ use Rattle.text.proofs.Emissions.{emitted-claim, emitted-table}
 use Rattle.unsat.proofs.Emitted.{emission-accepted}
 
 -- only a claim that the checker accepts is emitted
-accepted : (ws : List ℤ) (room n : ℕ) → reducedOf ws room ≡ Emitted n → (s : Shape) × (checkOf ws ≡ Accepted s)
+pub accepted : (ws : List ℤ) (room n : ℕ) → reducedOf ws room ≡ Emitted n → (s : Shape) × (checkOf ws ≡ Accepted s)
 unfolding reducedOf admission answer
 accepted ws room n e = go (checkOf ws) refl e
   where

@@ -20,7 +20,7 @@ use Rattle.solver.specs.declared.Written.the-variants.{Bytes, Refused}
 use Rattle.solver.specs.Written.{fitted, writtenOf, heldAfter, outAfter}
 use Rattle.solver.proofs.Answers.{claim-answer}
 use Rattle.text.specs.Answer.{refusalText, Printed}
-use Rattle.smt_text.specs.Answer.{lentBytes, writtenText, emissionText}
+use Rattle.smt_text.specs.Lent.{lentBytes, writtenText, fittedText}
 
 -- a text that fits is as long as the writer says
 whole : (b : Bool) (r : Refusal) (m n : ℕ) → cond b (Refused r) (Bytes m) ≡ Bytes n → m ≡ n
@@ -44,17 +44,17 @@ module _ (ws : List ℤ) (l l′ : List ℕ) {s : Shape} {w : Written} (taken : 
   unfolding outAfter
   left = leaves ∙ ap (λ x. heldAfter x claim l) (sym says)
 
-  prints : writtenText claim w ≡ emissionText claim
-  unfolding emissionText
+  prints : writtenText claim w ≡ fittedText claim
+  unfolding fittedText
   prints = ap (writtenText claim) answers
 
-  pub bytes-printed : (n : ℕ) → w ≡ Bytes n → Printed l (emissionText claim) l′ n
+  pub bytes-printed : (n : ℕ) → w ≡ Bytes n → Printed l (fittedText claim) l′ n
   unfolding writtenText heldAfter
   bytes-printed n is =
       let long = fitted-long lentBytes claim n (sym answers ∙ is) in
       rw (← prints, is)
       (record { bytes = left ∙ (ap (λ x. heldAfter x claim l) is ∙ ap (λ k. textOf claim ++ drop k l) (sym long)); count = sym long })
 
-  pub refusal-printed : (r : Refusal) → w ≡ Refused r → {l″ : List ℕ} {n : ℕ} → Printed l′ (refusalText r) l″ n → Printed l (emissionText claim) l″ n
+  pub refusal-printed : (r : Refusal) → w ≡ Refused r → {l″ : List ℕ} {n : ℕ} → Printed l′ (refusalText r) l″ n → Printed l (fittedText claim) l″ n
   unfolding writtenText heldAfter
   refusal-printed r is p = rw (← prints, is, ← (left ∙ ap (λ x. heldAfter x claim l) is)) p

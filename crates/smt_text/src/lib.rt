@@ -6,15 +6,16 @@ ghost use Rattle.checker.specs.Words.{claimOf};
 ghost use Rattle.checker.specs.Check.{checkAs};
 ghost use Rattle.checker.specs.Accepted.{claimShape};
 ghost use Rattle.text.specs.Answer.{Printed};
-ghost use Rattle.smt_text.specs.Answer.{emissionText, smtWords, smtText};
+ghost use Rattle.smt_text.specs.Answer.{smtText};
+ghost use Rattle.smt_text.specs.Lent.{fittedText, fittedWords};
 use decimal::Scanned;
 use reducer::Reduced;
 use solver::Written;
 
-// The writer takes an emission whole, or answers the bytes that it needs.
+// The writer takes every emission. Of words of 32 bits none has a text longer than the lent bytes, so that it refuses none either.
 fn put_text(words: &[i32], out: &mut [u8; 393216]) -> usize
     requires { ⌜ checkAs Emitted (now words) ≡ Accepted (claimShape (claimOf (now words))) ⌝ }
-    ensures { λ n. ⌜ Printed (now (out .entry)) (emissionText (claimOf (now (words .entry)))) (now (out .exit)) n ⌝ }
+    ensures { λ n. ⌜ Printed (now (out .entry)) (fittedText (claimOf (now (words .entry)))) (now (out .exit)) n ⌝ }
 {
     match solver::write_text(words, out) {
         Written::Bytes(n) => n,
@@ -23,7 +24,7 @@ fn put_text(words: &[i32], out: &mut [u8; 393216]) -> usize
 }
 
 fn smt_words(words: &[i32], out: &mut [u8; 393216]) -> usize
-    ensures { λ n. ⌜ Printed (now (out .entry)) (smtWords (now (words .entry))) (now (out .exit)) n ⌝ }
+    ensures { λ n. ⌜ Printed (now (out .entry)) (fittedWords (now (words .entry))) (now (out .exit)) n ⌝ }
 {
     let mut emission = [0i32; 16384];
     match reducer::reduce(words, &mut emission) {

@@ -3,6 +3,8 @@ use mathlib.Core.Path.{sym}
 use lib.Seq.{length-take-le}
 use Rattle.text.proofs.Answers.{read-within, read-answered, not-answered}
 use Rattle.smt_text.specs.Answer.{smtWords, smtText}
+use Rattle.smt_text.specs.Lent.{fittedWords}
+use Rattle.smt_text.proofs.Whole.{always-whole}
 use borrow.Author.Needs.{needs}
 use Rattle.smt_text.proofs.answer_smt.Statement.{statement}
 use Rattle.smt_text.proofs.answer_smt.Tie as tie
@@ -40,7 +42,7 @@ returns-2 : tie.Need-returns-2
 unfolding smtText
 returns-2 c =
     let read = c .before .before .before .before .before .before .read-input .ensures in
-    rw (read-answered _ _ _ _ (read .0) (read .1) (c .before .before .before .before .count .given .1) smtWords) (c .smt-words .ensures)
+    rw (← always-whole _, read-answered _ _ _ _ (read .0) (read .1) (c .before .before .before .before .count .given .1) fittedWords) (c .smt-words .ensures)
 
 pub answer-smt-spec : {M : Type 1} → statement M
 answer-smt-spec =

@@ -1,7 +1,7 @@
 -- `smt_text::put_text` meets its contract. Assumes nothing.
 use mathlib.Core.Path.{_≡_}
 use lib.ListN.{length}
-use Rattle.smt_text.specs.Answer.{lentBytes}
+use Rattle.smt_text.specs.Lent.{lentBytes}
 use Rattle.smt_text.proofs.Writing.{bytes-printed, refusal-printed}
 use borrow.Author.Needs.{needs}
 use Rattle.smt_text.proofs.put_text.Statement.{statement}

@@ -2,7 +2,7 @@
 use mathlib.Core.Path.{sym, _∙_}
 use lib.Seq.{length-take-le}
 use Rattle.text.proofs.Emissions.{emitted-within, emitted-claim}
-use Rattle.smt_text.specs.Answer.{smtReduced, smtWords}
+use Rattle.smt_text.specs.Lent.{fittedReduced, fittedWords}
 use Rattle.smt_text.proofs.Taken.{emission-taken}
 use borrow.Author.Needs.{needs}
 use Rattle.smt_text.proofs.smt_words.Statement.{statement}
@@ -39,14 +39,14 @@ put-refusal-requires : tie.Need-put-refusal-requires
 put-refusal-requires c κs = search needs
 
 returns : tie.Need-returns
-unfolding smtWords smtReduced
+unfolding fittedWords fittedReduced
 returns c =
     let made = c .before .before .before .before .before .before .before .reduce .ensures in
     let is = c .before .before .before .before .n .given .1 in
     rw (sym (made .0) ∙ is, ← emitted-claim _ _ _ _ (made .0) (made .1) is) (c .put-text .ensures)
 
 returns-2 : tie.Need-returns-2
-unfolding smtWords smtReduced
+unfolding fittedWords fittedReduced
 returns-2 c =
     let made = c .before .before .before .before .before .before .reduce .ensures in
     rw (sym (made .0) ∙ c .before .before .before .r .given .1) (c .put-refusal .ensures)

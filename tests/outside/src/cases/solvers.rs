@@ -56,6 +56,10 @@ pub fn run(tally: &mut Tally, programs: &Programs) {
             }
         }
     }
+    // A solver that never answers is as good as absent.
+    for (solver, count) in SOLVERS.iter().zip(&counts) {
+        tally.compare(&true, &(count.pinned > 0), || format!("any answer of {solver}"));
+    }
     report(&claims, &texts, &counts);
 }
 
