@@ -1,7 +1,7 @@
 -- What the checker accepts: exactly the words of well-sorted claims within the limits of the dialect, of kinds that it takes. Assumes nothing.
 use mathlib.Core.Path.{_≡_, refl, sym, _∙_, ap}
 use mathlib.Core.Logic.{_↔_}
-use mathlib.Core.Bool.{Bool, true, false, _&&_}
+use mathlib.Core.Bool.{Bool, true, false}
 use mathlib.Core.List.{List, [], _∷_, _++_, map}
 use Prim.Native.Nat.{ℕ, zero, suc, _+_, _*_, _-_, _<_}
 use native.Mathlib.Omega.{arith}
@@ -30,6 +30,7 @@ use Rattle.checker.proofs.Passed.{accepted-good, good-accepted}
 use Rattle.checker.proofs.Rowwise.{range, over-range, fits-served}
 use Rattle.checker.proofs.Reading.{claim-sorted, same-words, sets-counted, kinds-taken, quantifiers-taken}
 use Rattle.checker.proofs.Fitting.{sort-kind, fits-at, counted}
+use Rattle.checker.proofs.Bools.{joint}
 
 -- ---- accepted words
 
@@ -153,10 +154,7 @@ module _ (d : Dialect) (c : Claim) where
         (λ v k. let m : v < i = omega arith in
         ap sort (getD-take i (c .nodes) v unknown m) ∙ sort-kind (at v) ∙ ap sortOf (sym (kind-at v (omega arith)))) range-at
         (at i) (fits-at (c .quantifiers) (c .nodes) (sorted .0) i h) in
-        rw (kind-at i h, a-at i h, b-at i h) (passes (rw l at (f .0)) (rw l at (f .1)))
-      where
-        passes : {a b : Bool} → a ≡ true → b ≡ true → (a && b) ≡ true
-        passes e f = rw (e, f)
+        rw (kind-at i h, a-at i h, b-at i h) (joint (rw l at (f .0)) (rw l at (f .1)))
 
     kind-passes : (i : ℕ) → i < n → takesKind d (kindIn ws i) ≡ true
     kind-passes i h = ap (takesKind d) (kind-at i h) ∙ all-at (λ x. takesKind d (fieldsOf x .kind)) (c .nodes) (taken .nodes) unknown i h

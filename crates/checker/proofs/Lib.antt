@@ -1,3 +1,4 @@
+pub mod Bools
 pub mod Search
 pub mod Signed
 pub mod Rows
@@ -12,5 +13,6 @@ pub mod Limits
 pub mod Fitting
 pub mod Reading
 pub mod Accepted
+pub mod Claims
 pub mod Emitted
 pub mod Examples

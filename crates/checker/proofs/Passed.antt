@@ -1,6 +1,6 @@
 -- A table is accepted exactly where every test fails, and each failed test is a fact. Assumes nothing.
 use mathlib.Core.Path.{_≡_, refl, sym, _∙_, ap}
-use mathlib.Core.Bool.{Bool, true, false, not, cond, _&&_, true≢false}
+use mathlib.Core.Bool.{Bool, true, false, not, cond, _&&_}
 use mathlib.Core.List.{List, [], _∷_}
 use Prim.Native.Nat.{ℕ, zero, suc, _+_, _*_, _-_, _≤_, _<_}
 use native.Mathlib.Omega.{arith}
@@ -21,6 +21,7 @@ use Rattle.checker.specs.Check.{Test, verdict, quantifierTests, nodeTest
 use Rattle.checker.proofs.Search.{first-none, first-all, first-le, count-mono, count-yes}
 use Rattle.checker.proofs.Sorts.{inside}
 use Rattle.checker.proofs.Verdict.{plainAs, shaped, all-pass}
+use Rattle.checker.proofs.Bools.{both}
 
 -- A table that obeys the rules, and words that hold one.
 pub record GoodTable (d : Dialect) (t : Table) : Type 0 where
@@ -56,10 +57,6 @@ passed (t ∷ ts) ok s e = go (t .holds) refl e (passed ts ok s)
         → (verdict ts ok ≡ Accepted s → Failed ts × (ok ≡ Accepted s)) → ((t .holds ≡ false) × Failed ts) × (ok ≡ Accepted s)
     go true p f r = let z : _≡_ {A = ℕ} 0 1 = cc in absurd (omega arith)
     go false p f r = ((p, r f .0), r f .1)
-
-both : (a b : Bool) → (a && b) ≡ true → (a ≡ true) × (b ≡ true)
-both true b e = (refl, e)
-both false b e = absurd (true≢false (sym e))
 
 -- no quantifier is one too many: the sets below any index are within the limit
 few : (limit : ℕ) (t : Table) (n : ℕ) → ((i : ℕ) → i < n → oneTooMany limit t i ≡ false) → count (bindsSet t) n ≤ limit

@@ -1,6 +1,6 @@
 -- Good words read as a well-sorted claim whose words they are, and whose kinds are those that the dialect takes. Assumes nothing.
 use mathlib.Core.Path.{_≡_, refl, sym, _∙_, ap, ap₂, subst}
-use mathlib.Core.Bool.{Bool, true, false, _&&_, false≢true}
+use mathlib.Core.Bool.{true, false, false≢true}
 use mathlib.Core.List.{List, [], _∷_, _++_, map}
 use Prim.Native.Nat.{ℕ, zero, suc, _+_, _*_, _-_, _≤_, _<_}
 use native.Mathlib.Nat.{add-zero, zero-add, suc-add, add-suc}
@@ -26,6 +26,7 @@ use Rattle.checker.proofs.Limits.{nodes-most, quantifiers-most, all-tab
 use Rattle.checker.proofs.Passed.{Good}
 use Rattle.checker.proofs.Fitting.{counted}
 use Rattle.checker.proofs.Rowwise.{range, over-range, formula-is, looked, Serves, NodeIs, node-is}
+use Rattle.checker.proofs.Bools.{both}
 
 -- ---- quantifiers
 
@@ -57,10 +58,6 @@ is-number : (z : ℤ) (n : ℕ) → number z ≡ n → n < noNumber → z ≡ po
 unfolding number
 is-number (pos v) n e l = ap pos e
 is-number (negsuc v) n e l = absurd (omega arith)
-
-both : (a b : Bool) → (a && b) ≡ true → (a ≡ true) × (b ≡ true)
-both true b e = (refl, e)
-both false b e = absurd (false≢true e)
 
 module _ (d : Dialect) (ws : List ℤ) (good : Good d ws (nodesIn ws) (quantifiersIn ws)) where
   abbrev n : ℕ

@@ -1,7 +1,7 @@
 -- The rows of the sort table: a constant table is the list of a function's values, so that its entry at k is the function's value there; and past
 -- the table nothing serves. Assumes nothing.
 use mathlib.Core.Path.{_≡_, refl, _∙_, ap, sym}
-use mathlib.Core.Bool.{Bool, true, false, _&&_}
+use mathlib.Core.Bool.{Bool, true, _&&_}
 use mathlib.Core.List.{List, [], _∷_}
 use Prim.Native.Nat.{ℕ, zero, suc, _+_, _<_, _≤_}
 use native.Mathlib.Nat.{add-zero, zero-add, add-suc, suc-add, le-of-suc-le-suc, not-suc-le-zero}
@@ -11,6 +11,7 @@ use lib.Dec.{T, ltb, ltb→lt}
 use lib.ListN.{getD}
 use Rattle.checker.specs.declared.Need.the-variants.{Never}
 use Rattle.checker.specs.Kinds.{Entry, needing, noEntry, entryIn, sortTable, rowOf}
+use Rattle.checker.proofs.Bools.{both-told}
 
 -- f i, f (i + 1), .. : n values
 abbrev pub tabulate : {A : Type 0} → (ℕ → A) → ℕ → ℕ → List A
@@ -31,14 +32,10 @@ abbrev allBelow : List Entry → Bool
 allBelow [] = true
 allBelow (e ∷ es) = ltb (e .kind) 28 && allBelow es
 
-both : (a b : Bool) → T (a && b) → T a × T b
-both true b t = (tt, t)
-both false b t = absurd t
-
 past : (es : List Entry) → T (allBelow es) → (k : ℕ) → 28 ≤ k → entryIn es k ≡ noEntry k
 past [] t k h = refl
 past (e ∷ es) t k h =
-    let b = both (ltb (e .kind) 28) (allBelow es) t in
+    let b = both-told (ltb (e .kind) 28) (allBelow es) t in
     rw (ne-eqb (e .kind) k (λ p. omega (arith, ltb→lt (e .kind) 28 (b .0)))) (past es (b .1) k h)
 
 pub no-row : (k : ℕ) → 28 ≤ k → needing Never Never ≡ rowOf k

@@ -16,7 +16,7 @@ use Rattle.checker.specs.Claim.{Quantifier, intQ, setQ, countQ}
 use Rattle.checker.specs.Kinds.{number, quantifierOf}
 use Rattle.checker.specs.Words.{word, wordAt, nodesIn, claimOf}
 use Rattle.checker.specs.Sorts.{isSetQ, sets}
-use Rattle.matrix.proofs.Positions.{quantifier-at}
+use Rattle.checker.proofs.Claims.{quantifier-in}
 use Rattle.decider.specs.Plan.{someAt, onlySets}
 use Rattle.decider.specs.Standing.{existsAt, Kinds}
 
@@ -108,7 +108,7 @@ pub kind-at : (ws : List ℤ) → T (onlySets (claimOf ws .quantifiers)) → (n 
     → (eqb (wordAt ws (3 * n + q)) 3 ≡ isSome (getD (claimOf ws .quantifiers) q (intQ true))) × (wordAt ws (3 * n + q) < 256)
 unfolding wordAt
 kind-at ws o n q e l =
-    let read = quantifier-at ws q l in
+    let read = quantifier-in ws q l in
     rw (e, read) (set-kind (word ws (3 * nodesIn ws + q)) (rw read at (only-at (claimOf ws .quantifiers) o q l)))
 
 -- One more set's entries are stored.

@@ -13,4 +13,3 @@ pub mod Heap
 pub mod Passing
 pub mod Levels
 pub mod Settling
-pub mod Shapes

@@ -8,6 +8,7 @@ use Rattle.checker.specs.Kinds.{number, nodeOf, quantifierOf}
 use Rattle.checker.specs.Words.{wordAt, claimOf}
 use Rattle.checker.specs.Sorts.{sets}
 use Rattle.checker.specs.Meaning.{valueOf, values, matrix, setAt, numAt, truthAt}
+use Rattle.checker.proofs.Bools.{both-told}
 use Rattle.region.specs.Regions.{over}
 use Rattle.decider.specs.Rule.{joined, tries, rule}
 use Rattle.matrix.specs.Final.{finalValues}
@@ -26,10 +27,6 @@ allPass : List Case → Bool
 allPass [] = true
 allPass (k ∷ ks) = passes k && allPass ks
 
-and-both : (a b : Bool) → T (a && b) → T a × T b
-and-both true b t = (tt, t)
-and-both false b t = absurd t
-
 beq-is : (a b : Bool) → T (Bool·beq a b) → a ≡ b
 beq-is true true t = refl
 beq-is true false t = absurd t
@@ -41,14 +38,14 @@ unfolding passes
 right k t =
     let c = claimOf (k .words) in
     let r = ruling (k .size) c in
-    let a = and-both (onlySets (c .quantifiers)) (Bool·beq (r .truth) (k .truth) && eqb (r .steps) (k .steps)) t in
-    let b = and-both (Bool·beq (r .truth) (k .truth)) (eqb (r .steps) (k .steps)) (a .1) in
+    let a = both-told (onlySets (c .quantifiers)) (Bool·beq (r .truth) (k .truth) && eqb (r .steps) (k .steps)) t in
+    let b = both-told (Bool·beq (r .truth) (k .truth)) (eqb (r .steps) (k .steps)) (a .1) in
     (rw (beq-is (r .truth) (k .truth) (b .0)) at (Iff·symm (rule-true (k .size) c (a .0))), eqb→eq (r .steps) (k .steps) (b .1))
 
 all-right : (ks : List Case) → T (allPass ks) → AllRight ks
 unfolding allPass
 all-right [] t = tt
-all-right (k ∷ ks) t = let a = and-both (passes k) (allPass ks) t in (right k (a .0), all-right ks (a .1))
+all-right (k ∷ ks) t = let a = both-told (passes k) (allPass ks) t in (right k (a .0), all-right ks (a .1))
 
 pub small : AllRight smallClaims
 unfolding passes allPass number nodeOf quantifierOf wordAt claimOf sets valueOf values matrix setAt numAt truthAt over joined tries rule finalValues someAt ruling onlySets

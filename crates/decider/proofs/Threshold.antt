@@ -17,16 +17,13 @@ use Rattle.checker.specs.Words.{fieldsOf}
 use Rattle.checker.specs.Sorts.{sets}
 use Rattle.checker.specs.Meaning.{Set, Value, num, truth, asSet, asNum, asTruth, setAt, numAt, truthAt, eqZ, valueOf, values, matrix, TrueAt}
 use Rattle.checker.proofs.Sorts.{inside}
+use Rattle.checker.proofs.Bools.{both}
 use Rattle.region.specs.Regions.{Split, over, minus, regions}
 use Rattle.region.specs.Counting.{grow, HoldsR, TrueAtR}
 use Rattle.region.proofs.Quantified.{quantified-imp}
 use Rattle.region.proofs.Counting.{theorem-A}
 use Rattle.decider.specs.Threshold.{kind, isConstant, isCardinality, joins, allowed, allAllowed, Thresholds, above, largest, noNumbers}
 use Rattle.decider.proofs.Alike.{Alike, alike-sym, alike-over, transfer, Blunt, eqb-alike, equal-blunt, less-blunt}
-
-and-both : (a b : Bool) → (a && b) ≡ true → (a ≡ true) × (b ≡ true)
-and-both true b e = (refl, e)
-and-both false b e = absurd (false≢true e)
 
 or-one : (a b : Bool) → (a || b) ≡ true → (a ≡ true) ⊎ (b ≡ true)
 or-one true b e = inl refl
@@ -108,10 +105,10 @@ module _ (K : ℕ) where
     same-test m n v u w z j s t =
         ⊎-elim
         (λ e.
-        let b = and-both (isCardinality m) (isConstant n) e in
+        let b = both (isCardinality m) (isConstant n) e in
         same-left (fieldsOf n .a) v u w z (subst (λ k. Same k v u) (shape-counts m (b .0)) s) (subst (λ k. Same k w z) (shape-constant n (b .1)) t))
         (λ e.
-        let b = and-both (isConstant m) (isCardinality n) e in
+        let b = both (isConstant m) (isCardinality n) e in
         same-right (fieldsOf m .a) v u w z (subst (λ k. Same k v u) (shape-constant m (b .0)) s) (subst (λ k. Same k w z) (shape-counts n (b .1)) t))
         (or-one (isCardinality m && isConstant n) (isConstant m && isCardinality n) j)
 
@@ -169,7 +166,7 @@ module _ (K : ℕ) where
     unfolding values allAllowed largest
     same-values [] done vs us h o l i = same-truth done vs us h i
     same-values (n ∷ ns) done vs us h o l i =
-        let both = and-both (allowed done n) (allAllowed (done ++ n ∷ []) ns) o in
+        let both = both (allowed done n) (allAllowed (done ++ n ∷ []) ns) o in
         same-values ns (done ++ n ∷ []) (vs ++ valueOf (regions cs) qs vs n ∷ []) (us ++ valueOf (regions ds) qs us n ∷ [])
         (same-snoc done vs us h n (valueOf (regions cs) qs vs n) (valueOf (regions ds) qs us n) (same-value done vs us h n (both .0) (omega arith)))
         (both .1) (omega arith) i
@@ -230,7 +227,7 @@ narrower lo hi lo′ hi′ k e a b = go (within lo′ hi′ k) refl
   where
     go : (t : Bool) → within lo′ hi′ k ≡ t → within lo′ hi′ k ≡ false
     go true f =
-        let h = and-both (leb lo′ k) (leb k hi′) f in
+        let h = both (leb lo′ k) (leb k hi′) f in
         absurd (past lo hi k e (omega (arith, leb-true lo′ k (h .0))) (omega (arith, leb-true k hi′ (h .1))))
     go false f = f
 
@@ -252,7 +249,7 @@ no-numbers : (done ns : List Node) → noNumbers ns ≡ true → (allAllowed don
 unfolding noNumbers allAllowed allowed largest
 no-numbers done [] e = (refl, refl)
 no-numbers done (n ∷ ns) e =
-    let both = and-both (not (within 10 16 (kind n) || within 20 22 (kind n))) (noNumbers ns) e in
+    let both = both (not (within 10 16 (kind n) || within 20 22 (kind n))) (noNumbers ns) e in
     let here = plain-allowed (kind n) (joins (getD done (number (fieldsOf n .a)) unknown) (getD done (number (fieldsOf n .b)) unknown)) (both .0) in
     let rest = no-numbers (done ++ n ∷ []) ns (both .1) in
     (ap₂ _&&_ (here .0) (rest .0), rw (here .1, rest .1))

@@ -12,7 +12,8 @@ use Rattle.checker.specs.Kinds.{nodeOf, sortTable, entryIn}
 use Rattle.checker.specs.Words.{word, wordAt, nodeAt, claimOf}
 use Rattle.checker.specs.Sorts.{Fits}
 use Rattle.emission.specs.Runs.{Ready}
-use Rattle.emission.proofs.Claims.{Sound, sound, node-is, node-fits}
+use Rattle.checker.proofs.Claims.{Sound, sound}
+use Rattle.emission.proofs.Claims.{node-is, node-fits}
 
 of-kind : (ws : List ℤ) (i k : ℕ) → wordAt ws (3 * i) ≡ k → nodeAt ws i ≡ entryIn sortTable k .node (word ws (3 * i + 1)) (word ws (3 * i + 2))
 unfolding wordAt nodeOf

@@ -17,7 +17,8 @@ use Rattle.matrix.specs.Bound.{maxBound}
 use Rattle.matrix.specs.Work.{children, Every, work}
 use Rattle.matrix.specs.Known.{Workable}
 use Rattle.matrix.proofs.Words.{bits-pos}
-use Rattle.matrix.proofs.Rows.{AllRows, _▸_, in-rows}
+use Rattle.checker.proofs.Rowwise.{_▸_}
+use Rattle.matrix.proofs.Rows.{AllRows, in-rows}
 
 -- a child's value that was read by the child's word
 pub got : (xs : List ℤ) (r z : ℤ) → mag r < 2 ^ 31 → SFits w32 z → r ≡ word xs (number (toZ w32 (ofZ w32 z))) → toZ w32 (ofZ w32 r) ≡ word xs (number z)

@@ -12,10 +12,9 @@ use lib.Seq.{take-append-seam, getD-append-seam, getD-take, take-take, take-leng
 use Rattle.checker.specs.declared.Shape.{Shape}
 use Rattle.checker.specs.declared.Checked.the-variants.{Accepted}
 use Rattle.checker.specs.Claim.{Node, unknown}
-use Rattle.checker.specs.Words.{nodesIn, nodeAt, claimOf}
+use Rattle.checker.specs.Words.{claimOf}
 use Rattle.checker.specs.Check.{checkOf}
 use Rattle.checker.specs.Meaning.{Value, World, valueOf, values}
-use Rattle.checker.proofs.Tab.{tab-length, tab-at}
 use Rattle.checker.proofs.Words.{words-length}
 use Rattle.checker.proofs.Accepted.{accepted-claim}
 use Rattle.matrix.specs.Bound.{boundOf, boundsAfter}
@@ -74,15 +73,6 @@ bounds-build N bs (n ∷ ns) = bounds-build N (bs ++ boundOf N bs n ∷ []) ns
 
 -- ---- the nodes of a claim in words
 
-module _ (ws : List ℤ) where
-  pub nodes-length : length (claimOf ws .nodes) ≡ nodesIn ws
-  unfolding claimOf
-  nodes-length = tab-length (nodesIn ws) (nodeAt ws)
-
-  pub node-at : (i : ℕ) → i < length (claimOf ws .nodes) → getD (claimOf ws .nodes) i unknown ≡ nodeAt ws i
-  unfolding claimOf
-  node-at i h = tab-at (nodesIn ws) (nodeAt ws) unknown i (omega (arith, nodes-length))
-
-  -- there are words for each
-  pub node-room : (s : Shape) → checkOf ws ≡ Accepted s → (i : ℕ) → i < length (claimOf ws .nodes) → 3 * i + 3 ≤ length ws
-  node-room s e i h = omega (arith, words-length (claimOf ws), ap length (accepted-claim ws s e .words))
+-- there are words for each
+pub node-room : (ws : List ℤ) (s : Shape) → checkOf ws ≡ Accepted s → (i : ℕ) → i < length (claimOf ws .nodes) → 3 * i + 3 ≤ length ws
+node-room ws s e i h = omega (arith, words-length (claimOf ws), ap length (accepted-claim ws s e .words))

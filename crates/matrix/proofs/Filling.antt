@@ -18,7 +18,8 @@ use Rattle.region.specs.Pattern.{coversAt, Put}
 use Rattle.matrix.specs.Final.{finalValues}
 use Rattle.matrix.specs.Entry.{entryOf, nodeValues, Filled, Beyond}
 use Rattle.matrix.proofs.Known.{value-at}
-use Rattle.matrix.proofs.Rows.{AllRows, _▸_, in-table}
+use Rattle.checker.proofs.Rowwise.{_▸_}
+use Rattle.matrix.proofs.Rows.{AllRows, in-table}
 
 -- ---- sets cut to the regions that there are
 

@@ -15,7 +15,8 @@ use Rattle.checker.specs.Claim.{Node, unknown, Claim}
 use Rattle.checker.specs.Kinds.{number, sortTable, nodeOf}
 use Rattle.matrix.specs.Bound.{maxBound, boundOf, bounds, overBound}
 use Rattle.matrix.proofs.Build.{build-at, build-length, bounds-build}
-use Rattle.matrix.proofs.Rows.{AllRows, _▸_, in-table}
+use Rattle.checker.proofs.Rowwise.{_▸_}
+use Rattle.matrix.proofs.Rows.{AllRows, in-table}
 
 pub product-fits : (z : ℤ) (b : ℕ) → mag z < 2 ^ 31 → b ≤ maxBound → natAbs z * b < 2 ^ 64
 product-fits z b h k = omega (arith, le-trans (mul-le-mul-left (natAbs z) k) (mul-le-mul-right maxBound (abs-le z h)))

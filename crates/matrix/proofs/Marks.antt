@@ -18,7 +18,8 @@ use Rattle.matrix.specs.declared.order.Operands.{Operands}
 use Rattle.matrix.specs.Work.{children, Every}
 use Rattle.matrix.specs.Arranged.{listed, marked, Marked}
 use Rattle.matrix.proofs.Known.{children-below}
-use Rattle.matrix.proofs.Rows.{AllRows, _▸_, in-table}
+use Rattle.checker.proofs.Rowwise.{_▸_}
+use Rattle.matrix.proofs.Rows.{AllRows, in-table}
 
 pub every-map : (P Q : ℕ → Type 0) → ((x : ℕ) → P x → Q x) → (l : List ℕ) → Every P l → Every Q l
 every-map P Q f [] e = tt

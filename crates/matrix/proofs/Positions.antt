@@ -12,10 +12,8 @@ use lib.ListN.{length, getD, drop}
 use lib.Seq.{drop-cons}
 use Rattle.checker.specs.Claim.{Quantifier, intQ, setQ, countQ}
 use Rattle.checker.specs.Kinds.{number, quantifierOf}
-use Rattle.checker.specs.Words.{nodesIn, quantifiersIn, quantifierAt, claimOf}
 use Rattle.checker.specs.Sorts.{isSetQ, sets}
 use Rattle.checker.specs.Meaning.{setAt}
-use Rattle.checker.proofs.Tab.{tab-length, tab-at}
 use Rattle.region.specs.Pattern.{covers}
 use Rattle.matrix.specs.Final.{finalValues}
 
@@ -38,15 +36,6 @@ kind-3 z e = rw e
 pub kind-4 : (z : ℤ) → (number z ≡ 3 → ⊥) → eqb (number z) 4 ≡ isSetQ (quantifierOf z)
 unfolding quantifierOf
 kind-4 z h = kind-sets (number z) h
-
-module _ (ws : List ℤ) where
-  pub quantifiers-length : length (claimOf ws .quantifiers) ≡ quantifiersIn ws
-  unfolding claimOf
-  quantifiers-length = tab-length (quantifiersIn ws) (quantifierAt ws (nodesIn ws))
-
-  pub quantifier-at : (j : ℕ) → j < length (claimOf ws .quantifiers) → getD (claimOf ws .quantifiers) j (intQ true) ≡ quantifierAt ws (nodesIn ws) j
-  unfolding claimOf
-  quantifier-at j h = tab-at (quantifiersIn ws) (quantifierAt ws (nodesIn ws)) (intQ true) j (omega (arith, quantifiers-length))
 
 -- ---- one quantifier further
 

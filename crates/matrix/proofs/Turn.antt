@@ -9,6 +9,7 @@ use lib.ListN.{length, getD, set}
 use Rattle.checker.specs.Claim.{Claim, unknown}
 use Rattle.checker.specs.Words.{word, nodeAt, claimOf}
 use Rattle.checker.proofs.Accepted.{accepted-claim}
+use Rattle.checker.proofs.Claims.{node-at}
 use Rattle.region.specs.Regions.{over}
 use Rattle.region.specs.Pattern.{coversAt}
 use Rattle.region.proofs.Covered.{over-append}
@@ -17,7 +18,7 @@ use Rattle.matrix.specs.Entry.{Filled}
 use Rattle.matrix.specs.Work.{children, Every, work}
 use Rattle.matrix.specs.Order.{Order}
 use Rattle.matrix.specs.Known.{Ready, Open, Known, Settled, Workable}
-use Rattle.matrix.proofs.Build.{node-at, node-room}
+use Rattle.matrix.proofs.Build.{node-room}
 use Rattle.matrix.proofs.Known.{next-small, next-earlier, known-next}
 
 -- the first regions have no more ports than all

@@ -20,6 +20,7 @@ use Rattle.checker.specs.Accepted.{KindsTaken}
 use Rattle.checker.proofs.Words.{claim-words}
 use Rattle.checker.proofs.Accepted.{ClaimedAs, accepted-claim-as}
 use Rattle.checker.proofs.Emitted.{no-sets}
+use Rattle.checker.proofs.Bools.{joint}
 use Rattle.sentence.specs.Sentences.{AllPlain, Plain}
 use Rattle.sentence.specs.Text.{textOf}
 use Rattle.sentence.specs.Scan.{scan}
@@ -34,9 +35,6 @@ use Rattle.reader.proofs.Words.{all-held-in, all-held, fields-small}
 use Rattle.reader.proofs.Agrees.{same-true, same-refl}
 
 -- ---- tests
-
-both : {a b : Bool} → a ≡ true → b ≡ true → (a && b) ≡ true
-both e f = rw (e, f)
 
 alike : (a b : Bool) → (a ≡ true → b ≡ true) → (b ≡ true → a ≡ true) → a ≡ b
 alike true b f g = sym (f refl)
@@ -142,19 +140,19 @@ module _ (text : List ℕ) where
       let (k, e) = and-eq-true-iff (accepts (checkAs Emitted ws)) (same (textOf (claimOf ws)) text) .0 h in
       let (s, f) = accepted (checkAs Emitted ws) k in
       let w = accepted-claim-as Emitted ws s f .words in
-      (rw w (both i k), same-true (textOf (claimOf ws)) text e)
+      (rw w (joint i k), same-true (textOf (claimOf ws)) text e)
 
   reads-written : (c : Claim) → Reads WriterTakes text c → writes (map held (wordsOf c)) text ≡ true
   unfolding writes
   reads-written c (t, e) =
       let (i, k) = takes-parts c t in
-      rw (all-held (wordsOf c) i, claim-words c) (both k (same-is e))
+      rw (all-held (wordsOf c) i, claim-words c) (joint k (same-is e))
 
   pub writes-is : writes (map held (wordsOf (scan limits text))) text ≡ (takes (scan limits text) && same (textOf (scan limits text)) text)
   writes-is =
       let c = scan limits text in
       alike (writes (map held (wordsOf c)) text) (takes c && same (textOf c) text)
-      (λ h. let (t, e) = scanned-reads _ (written-reads (map held (wordsOf c)) (all-held-in (wordsOf c)) h) in both t (same-is e))
+      (λ h. let (t, e) = scanned-reads _ (written-reads (map held (wordsOf c)) (all-held-in (wordsOf c)) h) in joint t (same-is e))
       (λ h. let (t, s) = and-eq-true-iff (takes c) (same (textOf c) text) .0 h in reads-written c (t, same-true (textOf c) text s))
 
   module _ (ws : List ℤ) (e : ws ≡ map held (wordsOf (scan limits text))) where

@@ -20,7 +20,8 @@ use Rattle.emission.specs.Sizes.{allSets}
 use Rattle.emission.specs.Plan.{frameAt}
 use Rattle.lent.specs.Write.{Wrote}
 use Rattle.emission.specs.Write.{Room, WroteNodes}
-use Rattle.emission.proofs.Claims.{Sound, quantifier-at}
+use Rattle.checker.proofs.Claims.{Sound}
+use Rattle.emission.proofs.Claims.{quantifier-at}
 use Rattle.emission.proofs.Lengths.{next-is}
 use Rattle.emission.proofs.Steps.{next-taken}
 use Rattle.lent.proofs.Writing.{wrote-then}

@@ -19,7 +19,8 @@ use Rattle.emission.specs.declared.Frame as code
 use Rattle.emission.specs.Emission.{Place, size, counts, Frame, start, inside, insideAll, last, Body, splitRun, joinSome, joinAll, join, close, body, emission}
 use Rattle.emission.specs.Plan.{firstOf, Says, frameAt}
 use Rattle.emission.specs.Write.{maxNumber, Room, WroteNodes}
-use Rattle.emission.proofs.Claims.{Sound, sound, quantifier-at}
+use Rattle.checker.proofs.Claims.{Sound, sound}
+use Rattle.emission.proofs.Claims.{quantifier-at}
 use Rattle.emission.proofs.Steps.{next-dropped, inside-step}
 use Rattle.emission.proofs.Writing.{nodes-after, nodes-none, room-part}
 use Rattle.emission.proofs.Frames.{says-small, regions-are, place-is, kind-number}

@@ -1,7 +1,7 @@
 -- The constraint of one set, as a test of counts, says that they are a split.
 -- Assumes nothing.
 use mathlib.Core.Path.{_≡_, refl, sym, _∙_, ap, ap₂}
-use mathlib.Core.Bool.{Bool, true, false, _&&_, false≢true}
+use mathlib.Core.Bool.{Bool, true, _&&_}
 use mathlib.Core.List.{List, [], _∷_}
 use Prim.Native.Nat.{ℕ, zero, suc, _+_, _*_, _<_}
 use native.Mathlib.Decide.{ℕ-discrete}
@@ -10,13 +10,9 @@ use borrow.Author.Tests.{eqb-true, eq-eqb}
 use lib.Dec.{eqb}
 use lib.ListN.{length, getD}
 use Rattle.checker.specs.Meaning.{Set, every}
+use Rattle.checker.proofs.Bools.{both}
+use Rattle.region.proofs.Regions.{twice-suc, twice-suc-one}
 use Rattle.region.specs.Regions.{dbl, Split}
-
-twice-suc : (i : ℕ) → 2 * suc i ≡ suc (suc (2 * i))
-twice-suc i = omega arith
-
-twice-suc-one : (i : ℕ) → 2 * suc i + 1 ≡ suc (suc (2 * i + 1))
-twice-suc-one i = omega arith
 
 -- the two parts of region i, together
 abbrev parts : List ℕ → ℕ → ℕ
@@ -44,10 +40,6 @@ every-make : (n : ℕ) (s : Set) → ((i : ℕ) → i < n → s i ≡ true) → 
 unfolding every
 every-make zero s h = refl
 every-make (suc n) s h = ap₂ _&&_ (every-make n s (λ i l. h i (omega arith))) (h n (omega arith))
-
-both : (a b : Bool) → (a && b) ≡ true → (a ≡ true) × (b ≡ true)
-both true b e = (refl, e)
-both false b e = absurd (false≢true e)
 
 every-at : (n : ℕ) (s : Set) → every n s ≡ true → (i : ℕ) → i < n → s i ≡ true
 unfolding every

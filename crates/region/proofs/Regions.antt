@@ -109,10 +109,10 @@ tally-first (suc N) r k i =
 
 -- ---- lists of counts
 
-twice-suc : (i : ℕ) → 2 * suc i ≡ suc (suc (2 * i))
+pub twice-suc : (i : ℕ) → 2 * suc i ≡ suc (suc (2 * i))
 twice-suc i = omega arith
 
-twice-suc-one : (i : ℕ) → 2 * suc i + 1 ≡ suc (suc (2 * i + 1))
+pub twice-suc-one : (i : ℕ) → 2 * suc i + 1 ≡ suc (suc (2 * i + 1))
 twice-suc-one i = omega arith
 
 -- Both parts of all regions at once.

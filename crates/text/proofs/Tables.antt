@@ -1,6 +1,6 @@
 -- A table's words as lines: of the nodes one by one, and of a claim's words as a whole.
 -- Assumes nothing.
-use mathlib.Core.Path.{_≡_, refl, sym, ap}
+use mathlib.Core.Path.{_≡_, refl, ap}
 use mathlib.Core.List.{List, [], _∷_, _++_, map}
 use Prim.Native.Nat.{ℕ, suc, _+_, _*_, _-_, _<_, _≤_}
 use native.Mathlib.Omega.{arith}
@@ -10,7 +10,8 @@ use lib.Seq.{drop-drop, take-at, drop-at}
 use Rattle.decimal.specs.Printing.{lineText}
 use Rattle.checker.specs.Claim.{Node, Claim}
 use Rattle.checker.specs.Words.{nodeWords, nodesWords, quantifierWord, trailer, wordsOf, claimOf, nodesIn}
-use Rattle.checker.proofs.Words.{nodes-words-length, words-length, nodes-word}
+use Rattle.checker.proofs.Words.{nodes-words-length, words-length}
+use Rattle.checker.proofs.Claims.{node-count}
 use Rattle.text.specs.Answer.{nodesText, tableText}
 use Rattle.text.specs.Lines.{nodeLines}
 
@@ -82,7 +83,7 @@ module _ (c : Claim) where
 -- The same from the words themselves.
 module _ (ws : List ℤ) (is : wordsOf (claimOf ws) ≡ ws) where
   table-nodes : length (claimOf ws .nodes) ≡ nodesIn ws
-  table-nodes = sym (rw is at (nodes-word (claimOf ws)))
+  table-nodes = node-count ws
 
   pub table-long : 3 * nodesIn ws + 4 ≤ length ws
   table-long = omega (arith, words-length (claimOf ws), table-nodes, ap length is)

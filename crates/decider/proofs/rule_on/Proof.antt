@@ -11,6 +11,7 @@ use Rattle.checker.specs.Words.{claimOf}
 use Rattle.checker.specs.Sorts.{sets}
 use Rattle.checker.specs.Check.{checkOf}
 use Rattle.checker.proofs.Search.{first-le}
+use Rattle.checker.proofs.Claims.{Sound, sound}
 use Rattle.region.specs.Regions.{over}
 use Rattle.matrix.specs.Bound.{overBound}
 use Rattle.matrix.specs.Entry.{Filled}
@@ -25,7 +26,6 @@ use Rattle.decider.proofs.Heap.{leaf}
 use Rattle.decider.proofs.Levels.{sets-all}
 use Rattle.decider.proofs.Settling.{finals-counts}
 use Rattle.decider.proofs.Admitted.{Admitted, admitted}
-use Rattle.decider.proofs.Shapes.{Shaped, shaped}
 use borrow.Author.Needs.{needs}
 use Rattle.decider.proofs.rule_on.Statement.{statement}
 use Rattle.decider.proofs.rule_on.Tie as tie
@@ -41,15 +41,18 @@ module _ (s : tie.Start) where
   granted : Admitted (s .args .size) claim (checkOf ws) (s .args .shape)
   granted = admitted (s .args .size) claim (checkOf ws) (s .args .shape) (s .pre .0)
 
-  shape : Shaped ws (s .args .shape)
-  shape = shaped ws (s .args .shape) (granted .checked)
+  shape : Sound ws (s .args .shape)
+  shape = sound ws (s .args .shape) (granted .checked)
 
   -- at most 64 regions
   few : 2 ^ sets (claim .quantifiers) ≤ 64
-  few = let most : 2 ^ sets (claim .quantifiers) ≤ 2 ^ 6 = pow-le-pow-right (omega arith) (shape .few-sets) in omega arith
+  few =
+      let six : sets (claim .quantifiers) ≤ 6 = omega (arith, shape .few-sets, shape .sets) in
+      let most : 2 ^ sets (claim .quantifiers) ≤ 2 ^ 6 = pow-le-pow-right (omega arith) six in
+      omega arith
 
   set-count : s .args .shape .quantifiers ≡ sets (claim .quantifiers)
-  set-count = shape .quantifiers-listed ∙ sym (sets-all (claim .quantifiers) (granted .sets))
+  set-count = shape .quantifiers ∙ sym (sets-all (claim .quantifiers) (granted .sets))
 
   ready-claim : Ready ws (s .args .size)
   ready-claim =
@@ -83,13 +86,13 @@ module _ (z : tie.After-fill-kinds) where
   regions = z .fill-kinds .result
 
   filled : Filled (claim start) (length (claim start .nodes)) patterns
-  filled = rw (shape start .nodes-listed) at (z .before .before .before .before .before .before .before .before .before .prepare .ensures .0)
+  filled = rw (shape start .nodes) at (z .before .before .before .before .before .before .before .before .before .prepare .ensures .0)
 
   ordered : Order (claim start) order rows
   ordered = z .before .before .before .before .arrange .ensures .0 .0
 
   final : 2 ^ start .args .shape .sets ≡ regions
-  final = ap (λ n. 2 ^ n) (shape start .sets-are) ∙ sym (z .fill-kinds .ensures .0)
+  final = ap (λ n. 2 ^ n) (shape start .sets) ∙ sym (z .fill-kinds .ensures .0)
 
   small : regions ≤ 64
   small = omega (arith, few start, z .fill-kinds .ensures .0)
@@ -125,12 +128,12 @@ module _ (y : tie.After-pass) where
         ready = ready-claim s;
         filled = filled z;
         ordered = ordered z;
-        roomy = omega (arith, shape s .few-nodes, shape s .nodes-listed);
+        roomy = omega (arith, shape s .few-nodes, shape s .nodes);
         small = granted s .small;
       }
 
   rooted : Has (order z) (rows z) (s .args .shape .root) × (s .args .shape .root ≡ claim s .root)
-  rooted = (subst (Has (order z) (rows z)) (sym (shape s .root-is)) (z .before .before .before .before .arrange .ensures .0 .1), shape s .root-is)
+  rooted = (subst (Has (order z) (rows z)) (sym (shape s .root)) (z .before .before .before .before .arrange .ensures .0 .1), shape s .root)
 
   room : regions z + regions z ≤ length m
   room = omega (arith, small z, y .pass .kept .0)
@@ -164,7 +167,7 @@ slice-aggregate-arrange-3 c = search needs
 arrange-requires : tie.Need-arrange-requires
 arrange-requires c κs =
     let s = c .before .before .before .before .before .before in
-    (granted s .checked, (c .before .before .before .before .prepare .ensures .0, (shape s .few-nodes, omega (arith, few s, ap (λ n. 2 ^ n) (shape s .sets-are)))))
+    (granted s .checked, (c .before .before .before .before .prepare .ensures .0, (shape s .few-nodes, omega (arith, few s, ap (λ n. 2 ^ n) (shape s .sets)))))
 
 slice-aggregate-fill-kinds : tie.Need-slice-aggregate-fill-kinds
 slice-aggregate-fill-kinds c = search needs

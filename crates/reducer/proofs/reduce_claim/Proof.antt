@@ -6,7 +6,7 @@ use lib.ListN.{length}
 use Rattle.checker.specs.Words.{claimOf}
 use Rattle.emission.specs.Emission.{emission}
 use Rattle.reducer.proofs.Admitted.{admitted-room, emitted-answer, emitted-held, refused-answer, refused-held}
-use Rattle.emission.proofs.Claims.{sound}
+use Rattle.checker.proofs.Claims.{sound}
 use borrow.Author.Needs.{needs}
 use Rattle.reducer.proofs.reduce_claim.Statement.{statement}
 use Rattle.reducer.proofs.reduce_claim.Tie as tie

@@ -8,9 +8,9 @@ use Rattle.checker.specs.declared.Checked.{Checked}
 use Rattle.checker.specs.declared.Checked.the-variants.{Accepted, Refused}
 use Rattle.checker.specs.Words.{claimOf}
 use Rattle.checker.specs.Check.{refusal}
+use Rattle.checker.proofs.Claims.{Sound, sound}
 use Rattle.decider.specs.Decision.{firstNumber}
 use Rattle.decider.proofs.Admitted.{at-9, at-10, at-11, none-holds}
-use Rattle.decider.proofs.Shapes.{Shaped, shaped}
 use borrow.Author.Needs.{needs}
 use Rattle.decider.proofs.admission.admit_claim.Statement.{statement}
 use Rattle.decider.proofs.admission.admit_claim.Tie as tie
@@ -23,11 +23,11 @@ module _ (s : tie.Start) where
   abbrev ok : Checked
   ok = Accepted (s .args .shape)
 
-  shape : Shaped ws (s .args .shape)
-  shape = shaped ws (s .args .shape) (s .pre)
+  shape : Sound ws (s .args .shape)
+  shape = sound ws (s .args .shape) (s .pre)
 
   all-numbers : {i : ℕ} → i ≡ firstNumber (claimOf ws) → s .args .shape .quantifiers ≤ i → length (claimOf ws .quantifiers) ≤ firstNumber (claimOf ws)
-  all-numbers e l = omega (arith, e, l, shape .quantifiers-listed)
+  all-numbers e l = omega (arith, e, l, shape .quantifiers)
 
 refused-requires : tie.Need-refused-requires
 refused-requires c κs = search needs
@@ -54,8 +54,8 @@ returns-2 c =
     let s = c .before .before .before .before in
     let number = c .before .before .first-number .ensures in
     c .refused2 .ensures
-    ∙ ap₂ (λ n i. Refused (refusal 10 (3 * n + i))) (shape s .nodes-listed) number
-    ∙ at-10 (s .args .size) (claimOf (ws s)) (ok s) (c .before .before .before .if1 .left) (omega (arith, number, c .before .if2 .taken, shape s .quantifiers-listed))
+    ∙ ap₂ (λ n i. Refused (refusal 10 (3 * n + i))) (shape s .nodes) number
+    ∙ at-10 (s .args .size) (claimOf (ws s)) (ok s) (c .before .before .before .if1 .left) (omega (arith, number, c .before .if2 .taken, shape s .quantifiers))
 
 first-over-requires : tie.Need-first-over-requires
 first-over-requires c κs = c .before .before .before .pre
@@ -73,13 +73,13 @@ returns-3 c =
     c .refused3 .ensures
     ∙ ap (λ i. Refused (refusal 11 (3 * i))) over
     ∙ at-11 (s .args .size) (claimOf (ws s)) (ok s) (c .before .before .before .before .before .if1 .left)
-    (all-numbers s (c .before .before .before .before .first-number .ensures) (c .before .before .before .if2 .left)) (omega (arith, over, c .before .if3 .taken, shape s .nodes-listed))
+    (all-numbers s (c .before .before .before .before .first-number .ensures) (c .before .before .before .if2 .left)) (omega (arith, over, c .before .if3 .taken, shape s .nodes))
 
 returns-4 : tie.Need-returns-4
 returns-4 c =
     let s = c .before .before .before .before .before in
     none-holds (s .args .size) (claimOf (ws s)) (ok s) (c .before .before .before .before .if1 .left)
-    (all-numbers s (c .before .before .before .first-number .ensures) (c .before .before .if2 .left)) (omega (arith, c .before .first-over .ensures, c .if3 .left, shape s .nodes-listed))
+    (all-numbers s (c .before .before .before .first-number .ensures) (c .before .before .if2 .left)) (omega (arith, c .before .first-over .ensures, c .if3 .left, shape s .nodes))
 
 pub admit-claim-spec : {M : Type 1} → statement M
 admit-claim-spec =

@@ -5,8 +5,8 @@ use borrow.Author.Needs.{needs}
 use Rattle.checker.specs.Words.{claimOf}
 use Rattle.checker.specs.Search.{first}
 use Rattle.checker.proofs.Search.{Upto, upto-none, upto-more, upto-hit, upto-end}
+use Rattle.checker.proofs.Claims.{sound}
 use Rattle.decider.specs.Decision.{bindsNumber, firstNumber}
-use Rattle.decider.proofs.Shapes.{shaped}
 use Rattle.decider.proofs.admission.first_number.Statement.{statement}
 use Rattle.decider.proofs.admission.first_number.Tie as tie
 
@@ -18,7 +18,7 @@ abbrev μ-loop : tie.MeasureT-loop
 
 -- the place searched is that of the whole list
 all-of : (s : tie.Start Inv-loop μ-loop) → first (bindsNumber (claimOf (s .args .words .now))) (s .args .shape .quantifiers) ≡ firstNumber (claimOf (s .args .words .now))
-all-of s = ap (first (bindsNumber (claimOf (s .args .words .now)))) (shaped (s .args .words .now) (s .args .shape) (s .pre) .quantifiers-listed)
+all-of s = ap (first (bindsNumber (claimOf (s .args .words .now)))) (sound (s .args .words .now) (s .args .shape) (s .pre) .quantifiers)
 
 -- a quantifier that is not over sets is over numbers
 number-is : (b : tie.After-over-sets Inv-loop μ-loop)

@@ -11,9 +11,9 @@ use lib.ListN.{length, getD}
 use Rattle.checker.specs.Claim.{Quantifier, intQ}
 use Rattle.checker.specs.Words.{wordAt, claimOf}
 use Rattle.checker.specs.Sorts.{sets}
+use Rattle.checker.proofs.Claims.{node-count, Sound, sound}
 use Rattle.decider.specs.Standing.{Kinds}
 use Rattle.decider.proofs.Levels.{isSome, Level, level-none, level-more, kind-at, kinds-more, sets-all}
-use Rattle.decider.proofs.Shapes.{Shaped, shaped}
 use Rattle.decider.proofs.kinds.fill_kinds.Statement.{statement}
 use Rattle.decider.proofs.kinds.fill_kinds.Tie as tie
 
@@ -38,14 +38,14 @@ module _ (i : tie.In-loop Inv-loop μ-loop) where
   abbrev qs : List Quantifier
   qs = claimOf ws .quantifiers
 
-  shape : Shaped ws (s .args .shape)
-  shape = shaped ws (s .args .shape) (s .pre .0)
+  shape : Sound ws (s .args .shape)
+  shape = sound ws (s .args .shape) (s .pre .0)
 
   there : l .loop .q < length qs
-  there = omega (arith, i .loop-test .taken, shape .quantifiers-listed)
+  there = omega (arith, i .loop-test .taken, shape .quantifiers)
 
   kind : (eqb (wordAt ws (3 * s .args .shape .nodes + l .loop .q)) 3 ≡ isSome (getD qs (l .loop .q) (intQ true))) × (wordAt ws (3 * s .args .shape .nodes + l .loop .q) < 256)
-  kind = kind-at ws (s .pre .1 .0) (s .args .shape .nodes) (l .loop .q) (shape .nodes-are) there
+  kind = kind-at ws (s .pre .1 .0) (s .args .shape .nodes) (l .loop .q) (shape .nodes ∙ node-count ws) there
 
   more : Level qs (l .loop .q + 1) (l .loop .regions + l .loop .regions)
   more = level-more qs (s .pre .1 .0) (l .loop .q) (l .loop .regions) there (l .loop .inv .2)
@@ -56,7 +56,7 @@ module _ (i : tie.In-loop Inv-loop μ-loop) where
       omega (arith, more .power, grown, s .pre .1 .1, l .loop .inv .1)
 
 mul-first : tie.Need-mul-first Inv-loop μ-loop
-mul-first c = let s = c .before .before in omega (arith, shaped (s .args .words .now) (s .args .shape) (s .pre .0) .few-nodes)
+mul-first c = let s = c .before .before in omega (arith, sound (s .args .words .now) (s .args .shape) (s .pre .0) .few-nodes)
 
 loop-holds : tie.Need-loop-holds Inv-loop μ-loop
 loop-holds c = (omega arith, refl, level-none _, λ h a b. absurd (omega arith))
@@ -106,7 +106,7 @@ returns c =
     let l = c .before .loop in
     let ws = s .args .words .now in
     let all : l .q ≡ sets (claimOf ws .quantifiers) =
-    omega (arith, c .loop-test .left, l .inv .0, shaped ws (s .args .shape) (s .pre .0) .quantifiers-listed, sets-all (claimOf ws .quantifiers) (s .pre .1 .0)) in
+    omega (arith, c .loop-test .left, l .inv .0, sound ws (s .args .shape) (s .pre .0) .quantifiers, sets-all (claimOf ws .quantifiers) (s .pre .1 .0)) in
     (l .inv .2 .power ∙ ap (λ e. 2 ^ e) all, l .inv .3)
 
 pub fill-kinds-spec : {M : Type 1} → statement M

@@ -6,7 +6,7 @@ use borrow.Author.Needs.{needs}
 use lib.ListN.{length, getD, length-append}
 use Rattle.checker.specs.Words.{claimOf}
 use Rattle.emission.specs.Runs.{emittedTo, runAt, Patterned}
-use Rattle.emission.proofs.Claims.{sound}
+use Rattle.checker.proofs.Claims.{sound}
 use Rattle.emission.proofs.Walk.{nodes-next, stands-here, stands-before, patterned-none, emitted-none, root-is, body-is}
 use Rattle.emission.proofs.nodes.count.Statement.{statement}
 use Rattle.emission.proofs.nodes.count.Tie as tie

@@ -7,7 +7,7 @@ use lib.ListN.{length, length-append, length-set}
 use Rattle.checker.specs.Words.{claimOf}
 use Rattle.emission.specs.Runs.{emittedTo, runAt, Patterned, Standing}
 use Rattle.emission.specs.Write.{WroteNodes}
-use Rattle.emission.proofs.Claims.{sound}
+use Rattle.checker.proofs.Claims.{sound}
 use Rattle.emission.proofs.Walk.{nodes-next, emitted-within, patterned-none, standing-none, standing-next, emitted-none, body-is}
 use Rattle.emission.proofs.Writing.{nodes-after, nodes-long, nodes-none, nodes-then, room-after}
 use Rattle.emission.proofs.nodes.put_all.Statement.{statement}

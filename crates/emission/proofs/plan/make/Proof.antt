@@ -6,7 +6,8 @@ use lib.ListN.{length, take}
 use Rattle.checker.specs.Claim.{intQ}
 use Rattle.checker.specs.Words.{claimOf}
 use Rattle.emission.specs.Plan.{Says}
-use Rattle.emission.proofs.Claims.{sound, quantifier-at}
+use Rattle.checker.proofs.Claims.{sound}
+use Rattle.emission.proofs.Claims.{quantifier-at}
 use Rattle.emission.proofs.Steps.{next-taken}
 use Rattle.emission.proofs.Frames.{says-none, says-small, Noted, noted-none, noted-more}
 use Rattle.emission.proofs.plan.make.Statement.{statement}

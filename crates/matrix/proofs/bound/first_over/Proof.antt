@@ -9,9 +9,10 @@ use Rattle.checker.specs.Claim.{unknown}
 use Rattle.checker.specs.Words.{nodeAt, claimOf}
 use Rattle.checker.proofs.Search.{Upto, upto-none, upto-more, upto-hit, upto-end}
 use Rattle.checker.proofs.Accepted.{accepted-claim}
+use Rattle.checker.proofs.Claims.{node-at}
 use Rattle.matrix.specs.Bound.{maxBound, boundOf, overBound}
 use Rattle.matrix.specs.Bound as spec
-use Rattle.matrix.proofs.Build.{node-at, node-room}
+use Rattle.matrix.proofs.Build.{node-room}
 use Rattle.matrix.proofs.Limits.{is-over, not-over, bounds-next, small-next}
 use Rattle.matrix.proofs.bound.first_over.Statement.{statement}
 use Rattle.matrix.proofs.bound.first_over.Tie as tie

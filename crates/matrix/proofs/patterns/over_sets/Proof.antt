@@ -10,13 +10,13 @@ use Rattle.checker.specs.Kinds.{quantifierOf}
 use Rattle.checker.specs.Words.{word, wordAt, nodesIn, quantifierAt, claimOf}
 use Rattle.checker.specs.Sorts.{isSetQ}
 use Rattle.checker.proofs.Accepted.{accepted-claim}
-use Rattle.matrix.proofs.Build.{nodes-length}
-use Rattle.matrix.proofs.Positions.{kind-3, kind-4, quantifier-at}
+use Rattle.matrix.proofs.Positions.{kind-3, kind-4}
 use Rattle.matrix.proofs.patterns.over_sets.Statement.{statement}
 use Rattle.matrix.proofs.patterns.over_sets.Tie as tie
 use Rattle.matrix.proofs.patterns.over_sets.Reads as reads
 use Rattle.matrix.proofs.patterns.over_sets.Lts as lts
 use Rattle.checker.proofs.word.Reads as word-reads
+use Rattle.checker.proofs.Claims.{node-count, quantifier-in}
 
 module _ (s : lts.Start (word-reads.Asked, word-reads.Learnt) reads.Pre reads.Post) where
   few : s .args .shape .nodes * 3 < 4096
@@ -29,8 +29,8 @@ module _ (s : lts.Start (word-reads.Asked, word-reads.Learnt) reads.Pre reads.Po
   read : getD (claimOf (s .args .words .now) .quantifiers) (s .args .j) (intQ true) ≡ quantifierOf (word (s .args .words .now) (3 * s .args .shape .nodes + s .args .j))
   read =
       let ok = accepted-claim (s .args .words .now) (s .args .shape) (s .pre .0) in
-      let n : s .args .shape .nodes ≡ nodesIn (s .args .words .now) = ap (λ x. x .nodes) (ok .shape) ∙ nodes-length (s .args .words .now) in
-      quantifier-at (s .args .words .now) (s .args .j) (omega (arith, ap (λ x. x .quantifiers) (ok .shape), s .pre .1))
+      let n : s .args .shape .nodes ≡ nodesIn (s .args .words .now) = ap (λ x. x .nodes) (ok .shape) ∙ node-count (s .args .words .now) in
+      quantifier-in (s .args .words .now) (s .args .j) (omega (arith, ap (λ x. x .quantifiers) (ok .shape), s .pre .1))
       ∙ ap (λ m. quantifierAt (s .args .words .now) m (s .args .j)) (sym n)
 
 mul-word : tie.Need-mul-word

@@ -21,7 +21,6 @@ use Rattle.checker.proofs.Accepted.{accepted-claim}
 use Rattle.region.specs.Pattern.{covers, coversAt, Put}
 use Rattle.matrix.specs.Final.{finalValues}
 use Rattle.matrix.specs.Entry.{entryOf, nodeValues, Filled, Beyond}
-use Rattle.matrix.proofs.Build.{node-at}
 use Rattle.matrix.proofs.Rows.{by-kind}
 use Rattle.matrix.proofs.Positions.{final-covers}
 use Rattle.matrix.proofs.Filling.{cut-whole, cut-none, cut-or, cut-twice, cut-and, cut-not, cut-xor, cut-minus, child-covers, filled-next, beyond-next, Bare, no-entry}
@@ -30,6 +29,7 @@ use Rattle.matrix.proofs.patterns.put_entry.Tie as tie
 use Rattle.matrix.proofs.patterns.put_entry.Reads as reads
 use Rattle.matrix.proofs.patterns.put_entry.Lts as lts
 use Rattle.checker.proofs.word.Reads as word-reads
+use Rattle.checker.proofs.Claims.{node-at}
 use Rattle.matrix.proofs.patterns.position.Reads as position-reads
 use Rattle.region.proofs.put_complement.Reads as put-complement-reads
 use Rattle.region.proofs.put_difference.Reads as put-difference-reads

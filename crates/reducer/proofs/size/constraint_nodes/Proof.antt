@@ -1,7 +1,7 @@
 -- `reducer::size::constraint_nodes` meets its contract. Assumes nothing.
 use native.Mathlib.Omega.{arith}
 use Rattle.checker.specs.Words.{claimOf}
-use Rattle.emission.proofs.Claims.{sound}
+use Rattle.checker.proofs.Claims.{sound}
 use Rattle.reducer.proofs.Sizes.{constraints-length}
 use Rattle.reducer.proofs.Counted.{alls-few, regions-known, regions-some, regions-few}
 use borrow.Author.Needs.{needs}

@@ -7,7 +7,7 @@ use lib.ListN.{length, take}
 use lib.Seq.{take-length}
 use Rattle.checker.specs.Words.{claimOf}
 use Rattle.emission.specs.Sizes.{allSets}
-use Rattle.emission.proofs.Claims.{sound}
+use Rattle.checker.proofs.Claims.{sound}
 use Rattle.reducer.proofs.Counted.{one-more, none-more, alls-start}
 use borrow.Author.Needs.{needs}
 use Rattle.reducer.proofs.size.for_alls.Statement.{statement}
