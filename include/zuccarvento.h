@@ -20,8 +20,8 @@
  *   2       node count not from 1 to 1,024, else quantifier count not from 0 to 32          L - 3, L - 2
  *   3       L is not 3 * nodes + quantifiers + 4                                            0
  *   4       a quantifier word not from 1 to 6                                               the first such word
- *   5       a seventh set quantifier                                                        its word
- *   6       a node breaks the sort table                                                    the first word of the first such node
+ *   5       one set quantifier over six                                                     its word
+ *   6       a node not as its kind asks                                                     the first word of the first such node
  *   7       the root is no node's number, or no formula                                     L - 4
  *   12      zuccarvento_reduce: an emitted node or quantifier number over 2,147,483,647     0
  *   8       zuccarvento_reduce: `out` is shorter than the emission                          the words needed
