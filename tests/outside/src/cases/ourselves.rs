@@ -13,6 +13,7 @@ use outside::table::{Claim, Node};
 use outside::text::{self, spaced};
 
 use super::tally::Tally;
+use super::truth::same_truth;
 
 /// Texts and the words they are, if they are words.
 #[rustfmt::skip]
@@ -62,12 +63,7 @@ pub fn searches(tally: &mut Tally) {
         let words = joined_claim(&mut random, &quantifiers, 5);
         let emission = emit::reduce(&words, usize::MAX).expect("the claim is accepted");
         for size in 0..=3 {
-            let ranges = Ranges::around(size, 1);
-            let expected = meaning::truth(&Claim::read(&words), size, ranges);
-            let found = counting::truth(&Claim::read(&emission), size, ranges);
-            tally.compare(&expected, &found, || {
-                format!("our searches at size {size} of words: {}", spaced(&words))
-            });
+            same_truth(tally, &words, &emission, size, Ranges::around(size, 1));
         }
     }
 }

@@ -66,19 +66,22 @@ pub fn of_mixed(tally: &mut Tally) {
         let (sets, others) = (random.below(3), 1 + random.below(2));
         let quantifiers = any_quantifiers(&mut random, sets, others);
         let words = joined_claim(&mut random, &quantifiers, 4);
-        let claim = Claim::read(&words);
         let Some(emission) = calls::reduce(tally, &words) else {
             unreachable!("the claim is accepted");
         };
         for size in 0..=2 {
-            let ranges = Ranges::around(size, 2);
-            let expected = meaning::truth(&claim, size, ranges);
-            let found = counting::truth(&Claim::read(&emission), size, ranges);
-            tally.compare(&expected, &found, || {
-                format!("truth at size {size} over {ranges:?} of words: {}", spaced(&words))
-            });
+            same_truth(tally, &words, &emission, size, Ranges::around(size, 2));
         }
     }
+}
+
+/// A claim by trying subsets, and its emission by trying counts.
+pub fn same_truth(tally: &mut Tally, words: &[i32], emission: &[i32], size: u32, ranges: Ranges) {
+    let expected = meaning::truth(&Claim::read(words), size, ranges);
+    let found = counting::truth(&Claim::read(emission), size, ranges);
+    tally.compare(&expected, &found, || {
+        format!("truth at size {size} over {ranges:?} of words: {}", spaced(words))
+    });
 }
 
 /// A claim without number terms or comparisons does not change its truth
