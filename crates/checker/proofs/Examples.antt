@@ -51,7 +51,7 @@ examples =
     ∷ example (under 33) (gives 2 41)
     ∷ example (numbers (2 ∷ 0 ∷ 0 ∷ 0 ∷ 2 ∷ 0 ∷ 2005 ∷ [])) (gives 3 0)
     ∷ example (numbers (12 ∷ 0 ∷ 0 ∷ 3 ∷ 7 ∷ 0 ∷ 1 ∷ 2 ∷ 2005 ∷ [])) (gives 4 4)
-    ∷ example (numbers (12 ∷ 0 ∷ 0 ∷ 3 ∷ 3 ∷ 4 ∷ 1 ∷ 3 ∷ 4 ∷ 3 ∷ 4 ∷ 0 ∷ 1 ∷ 8 ∷ 2005 ∷ [])) (gives 5 10)
+    ∷ example (numbers (12 ∷ 0 ∷ 0 ∷ 3 ∷ 3 ∷ 4 ∷ 1 ∷ 3 ∷ 4 ∷ 3 ∷ 4 ∷ 3 ∷ 4 ∷ 0 ∷ 1 ∷ 10 ∷ 2005 ∷ [])) (gives 5 12)
     ∷ example (numbers (12 ∷ 0 ∷ 0 ∷ 20 ∷ 0 ∷ 1 ∷ 1 ∷ 2 ∷ 0 ∷ 2005 ∷ [])) (gives 6 3)
     ∷ example (numbers (12 ∷ 0 ∷ 0 ∷ 0 ∷ 1 ∷ 0 ∷ 2005 ∷ [])) (gives 7 3)
     ∷ []
@@ -60,7 +60,7 @@ abbrev pub emitted-examples : List Example
 emitted-examples =
     example emitted (Accepted (record { nodes = 9; quantifiers = 2; sets = 0; root = 8 }))
     ∷ example (under 33) (Accepted (record { nodes = 2; quantifiers = 33; sets = 0; root = 1 }))
-    ∷ example (under 153) (gives 2 161)
+    ∷ example (under 535) (gives 2 543)
     ∷ example claim (gives 4 12)
     ∷ example (numbers (12 ∷ 0 ∷ 0 ∷ 2 ∷ 0 ∷ 0 ∷ 0 ∷ 2 ∷ 0 ∷ 2005 ∷ [])) (gives 6 3)
     ∷ []

@@ -14,5 +14,6 @@ pub mod Fitting
 pub mod Reading
 pub mod Accepted
 pub mod Claims
+pub mod SetLimit
 pub mod Emitted
 pub mod Examples

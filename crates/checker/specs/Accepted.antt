@@ -1,4 +1,4 @@
--- What acceptance says of a claim besides that it is well sorted: it is within the limits of its dialect (for claims over sets 01, "Limits"), every
+-- What acceptance says of a claim besides that it is well sorted: it is within the limits of its dialect (`Dialect`), every
 -- kind in it is taken there, and these counts are handed on.
 -- Assumes nothing.
 use mathlib.Core.Path.{_≡_}

@@ -1,4 +1,4 @@
--- The two dialects of the claim table: claims over sets, within the limits of 01, and emitted claims, which are larger and know no sets.
+-- The two dialects of the claim table: claims over sets, within the limits of 01 and #113, and emitted claims, which are larger and know no sets.
 -- Of each: how much it holds, and which kinds of nodes and quantifiers it takes. Those that it does not take are unknown to it (refusals 6 and 4).
 -- Assumes nothing.
 use mathlib.Core.Bool.{Bool, true, _||_}
@@ -7,18 +7,18 @@ use Rattle.checker.specs.declared.Dialect.{Dialect}
 use Rattle.checker.specs.declared.Dialect.the-variants.{SetClaims, Emitted}
 use Rattle.checker.specs.Kinds.{within, rangeOf, overNumbers}
 
--- ---- limits: those of 01, and the largest emission's counts
+-- ---- limits: those of claims over sets, and what 01's bound on an emission's size comes to at them
 
 abbrev pub mostNodes : Dialect → ℕ
 mostNodes SetClaims = 1024
-mostNodes Emitted = 136576
+mostNodes Emitted = 530946
 
 abbrev pub mostQuantifiers : Dialect → ℕ
 mostQuantifiers SetClaims = 32
-mostQuantifiers Emitted = 152
+mostQuantifiers Emitted = 534
 
 abbrev pub mostSets : Dialect → ℕ
-mostSets SetClaims = 6
+mostSets SetClaims = 8
 mostSets Emitted = 0
 
 -- ---- kinds

@@ -2,17 +2,11 @@
 ghost use mathlib.Core.Path.{_≡_};
 ghost use Rattle.checker.specs.Dialect.{mostNodes, mostQuantifiers, mostSets, speaksOfNumbers, takesKind, takesQuantifier};
 use crate::Dialect;
-
-const MAX_NODES: usize = 1024;
-
-const MAX_QUANTIFIERS: usize = 32;
-
-const MAX_SETS: usize = 6;
-
-// The largest emission's counts.
-const MAX_EMITTED_NODES: usize = 136576;
-
-const MAX_EMITTED_QUANTIFIERS: usize = 152;
+use crate::names::MAX_EMITTED_NODES;
+use crate::names::MAX_EMITTED_QUANTIFIERS;
+use crate::names::MAX_NODES;
+use crate::names::MAX_QUANTIFIERS;
+use crate::names::MAX_SETS;
 
 pub fn most_nodes(dialect: Dialect) -> usize
     ensures { λ r. ⌜ r ≡ mostNodes dialect ⌝ }

@@ -9,6 +9,7 @@ pub mod Steps
 pub mod Total
 pub mod Admitted
 pub mod Demand
+pub mod SetLimit
 pub mod Heap
 pub mod Passing
 pub mod Levels

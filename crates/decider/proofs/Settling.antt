@@ -9,16 +9,19 @@ use borrow.Author.Tests.{leb-true, leb-false}
 use lib.Dec.{leb}
 use lib.IntN.{ℤ}
 use lib.ListN.{length, getD, take, drop, length-drop, drop-of-length-le}
+use lib.Pow.{pow-mono}
 use lib.Seq.{drop-drop, drop-append-le, length-take-le, getD-take, take-add}
+use Rattle.checker.specs.declared.Shape.{Shape}
 use Rattle.checker.specs.Claim.{Claim}
 use Rattle.checker.specs.Words.{claimOf}
 use Rattle.checker.specs.Sorts.{sets}
+use Rattle.checker.specs.Check.{maxNodes}
 use Rattle.region.specs.Regions.{over}
 use Rattle.matrix.specs.Known.{Counts, Open, Known}
 use Rattle.matrix.proofs.Known.{known-more, order-less}
 use Rattle.matrix.proofs.Open.{open-some}
 use Rattle.decider.specs.Rule.{split}
-use Rattle.decider.specs.Standing.{Total, finals, Passed, Prepared, Guided}
+use Rattle.decider.specs.Standing.{Total, finals, Passed, Prepared, Guided, Frame}
 use Rattle.decider.proofs.Total.{total, total-next}
 
 -- ---- the final regions that stand before split h
@@ -97,3 +100,11 @@ prepared-less {ws} {size = size} {rows = rows} {to = to} l p =
 pub guided-kept : {c : Claim} {kinds upto patterns order : List ℕ} {room room′ rows regions : ℕ} → room′ ≡ room → Guided c kinds upto patterns order room rows regions
     → Guided c kinds upto patterns order room′ rows regions
 guided-kept e g = rw e g
+
+-- ---- arrays
+
+-- arrays for 1,024 nodes and 2 ^ e regions
+pub framed : (shape : Shape) (e : ℕ) → shape .nodes ≤ maxNodes → shape .sets ≤ e → Frame shape maxNodes (2 ^ e + 1) (2 ^ e) maxNodes (2 ^ e + 2 ^ e)
+framed shape e n s =
+    let few : 2 ^ shape .sets ≤ 2 ^ e = pow-mono s in
+    record { nodes = (n, n); regions = (omega arith, few, omega arith) }

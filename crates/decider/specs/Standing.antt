@@ -7,12 +7,14 @@ use Prim.Native.Nat.{ℕ, _+_, _-_, _^_, _≤_, _<_}
 use lib.Dec.{eqb}
 use lib.IntN.{ℤ}
 use lib.ListN.{length, getD, take, drop}
+use Rattle.checker.specs.declared.Shape.{Shape}
 use Rattle.checker.specs.Claim.{Quantifier, Claim}
 use Rattle.checker.specs.Words.{claimOf}
 use Rattle.checker.specs.Sorts.{sets}
+use Rattle.checker.specs.Check.{maxSets}
 use Rattle.region.specs.Regions.{over}
 use Rattle.matrix.specs.Entry.{Filled}
-use Rattle.matrix.specs.Order.{Order}
+use Rattle.matrix.specs.Order.{Has, Order}
 use Rattle.matrix.specs.Known.{Ready, Scheduled}
 use Rattle.decider.specs.Rule.{rule}
 use Rattle.decider.specs.Plan.{someAt, planOf}
@@ -57,8 +59,32 @@ pub record Prepared (ws : List ℤ) (patterns order : List ℕ) (room size rows 
 -- The splits have their kinds, the number of nodes that the first final regions settle is known, and there is room for all counts.
 pub record Guided (c : Claim) (kinds upto patterns order : List ℕ) (room rows regions : ℕ) : Type 0 where
   pub final : regions ≡ 2 ^ sets (c .quantifiers)
-  pub few : regions ≤ 64
+  pub few : regions ≤ 2 ^ maxSets
   pub roomy : regions + regions ≤ room
   pub long : (regions ≤ length kinds) × (regions ≤ length upto)
   pub quantified : Kinds kinds (c .quantifiers) regions
   pub scheduled : Scheduled patterns regions order rows upto
+
+-- All that a claim settles before a search stands: the patterns, an order of `rows` nodes, and of each split how far the order is settled and the kind.
+pub record Arranged (c : Claim) (patterns order upto kinds : List ℕ) (rows regions : ℕ) : Type 0 where
+  pub final : regions ≡ 2 ^ sets (c .quantifiers)
+  pub filled : Filled c (length (c .nodes)) patterns
+  pub ordered : Order c order rows
+  pub rooted : Has order rows (c .root)
+  pub long : (regions ≤ length kinds) × (regions ≤ length upto)
+  pub quantified : Kinds kinds (c .quantifiers) regions
+  pub scheduled : Scheduled patterns regions order rows upto
+
+-- A search can start at split h: the claim can be worked out at this size, the arrays are long enough, and the regions from h on have all ports.
+pub record Startable (ws : List ℤ) (root size regions h values : ℕ) (counts : List ℕ) : Type 0 where
+  pub ready : Ready ws size
+  pub small : size ≤ maxSize
+  pub rooted : root ≡ claimOf ws .root
+  pub roomy : (length (claimOf ws .nodes) ≤ values) × (regions + regions ≤ length counts)
+  pub place : (0 < h) × (h ≤ regions)
+  pub total : Total counts h size
+
+-- The arrays that a decision is worked out in are long enough for the claim.
+pub record Frame (shape : Shape) (order upto kinds values counts : ℕ) : Type 0 where
+  pub nodes : (shape .nodes ≤ order) × (shape .nodes ≤ values)
+  pub regions : (2 ^ shape .sets < upto) × (2 ^ shape .sets ≤ kinds) × (2 ^ shape .sets + 2 ^ shape .sets ≤ counts)

@@ -6,7 +6,10 @@ ghost use Rattle.checker.specs.Check.{checkOf};
 ghost use Rattle.decider.specs.Plan.{ruling};
 ghost use Rattle.decider.specs.Answer.{reply};
 ghost use Rattle.decider.specs.Decision.{admission, said, decisionOf};
-ghost use Prim.Native.Nat.{_+_, _^_, _<_};
+ghost use Prim.Native.Nat.{_+_, _^_, _<_, _≤_};
+ghost use lib.ListN.{length};
+ghost use Rattle.region.specs.Pattern.{Roomy};
+ghost use Rattle.decider.specs.Standing.{Frame};
 use allowance::Allowance;
 use allowance::Reply;
 use checker::Checked;
@@ -15,6 +18,7 @@ use checker::Shape;
 mod admission; // refusals 9 to 11
 mod allowance; // steps, paid for one at a time
 mod kinds; // which quantifier a split belongs to
+mod prepare; // what is settled before a search
 mod search; // the splits, in order
 
 // True or false with the steps taken; or the allowance is spent, all of it; or a refusal.
@@ -41,55 +45,105 @@ fn decision_of(x: Reply) -> Decision
     }
 }
 
-// The rule's reply, from one region of all ports.
+// The rule's reply, from one region of all ports, worked out in lent arrays.
+fn rule_in(
+    words: &[i32],
+    size: u32,
+    shape: Shape,
+    a: Allowance,
+    patterns: &mut [u64],
+    order: &mut [usize],
+    upto: &mut [usize],
+    kinds: &mut [u8],
+    values: &mut [i32],
+    counts: &mut [u32],
+) -> Reply
+    requires { ⌜ admission size (claimOf (now words)) (checkOf (now words)) ≡ Accepted shape ⌝ }
+    requires { ⌜ a .left + a .taken < 2 ^ 64 ⌝ }
+    requires { ⌜ Roomy shape (now patterns) × Frame shape (length (now order)) (length (now upto)) (length (now kinds)) (length (now values)) (length (now counts)) ⌝ }
+    ensures { λ r. ⌜ r ≡ reply (ruling size (claimOf (now (words .entry)))) a ⌝ }
+{
+    let arrangement = prepare::prepare(words, shape, patterns, order, upto, kinds);
+    counts[0] = 0;
+    counts[1] = size;
+    search::search(
+        words,
+        patterns,
+        order,
+        upto,
+        kinds,
+        arrangement,
+        shape.root,
+        size,
+        1,
+        counts,
+        values,
+        a,
+    )
+}
+
+// The same in arrays for up to six sets: clearing them is a good part of a short call.
+fn rule_narrow(words: &[i32], size: u32, shape: Shape, a: Allowance) -> Reply
+    requires { ⌜ admission size (claimOf (now words)) (checkOf (now words)) ≡ Accepted shape ⌝ }
+    requires { ⌜ a .left + a .taken < 2 ^ 64 ⌝ }
+    requires { ⌜ shape .sets ≤ 6 ⌝ }
+    ensures { λ r. ⌜ r ≡ reply (ruling size (claimOf (now (words .entry)))) a ⌝ }
+{
+    let mut patterns = [0u64; region::NARROW];
+    let mut order = [0usize; 1024];
+    let mut upto = [0usize; 65];
+    let mut kinds = [0u8; 64];
+    let mut values = [0i32; 1024];
+    let mut counts = [0u32; 128];
+    rule_in(
+        words,
+        size,
+        shape,
+        a,
+        &mut patterns,
+        &mut order,
+        &mut upto,
+        &mut kinds,
+        &mut values,
+        &mut counts,
+    )
+}
+
+// And for all that a claim may have.
+fn rule_wide(words: &[i32], size: u32, shape: Shape, a: Allowance) -> Reply
+    requires { ⌜ admission size (claimOf (now words)) (checkOf (now words)) ≡ Accepted shape ⌝ }
+    requires { ⌜ a .left + a .taken < 2 ^ 64 ⌝ }
+    ensures { λ r. ⌜ r ≡ reply (ruling size (claimOf (now (words .entry)))) a ⌝ }
+{
+    let mut patterns = [0u64; region::WIDE];
+    let mut order = [0usize; 1024];
+    let mut upto = [0usize; 257];
+    let mut kinds = [0u8; 256];
+    let mut values = [0i32; 1024];
+    let mut counts = [0u32; 512];
+    rule_in(
+        words,
+        size,
+        shape,
+        a,
+        &mut patterns,
+        &mut order,
+        &mut upto,
+        &mut kinds,
+        &mut values,
+        &mut counts,
+    )
+}
+
 fn rule_on(words: &[i32], size: u32, shape: Shape, a: Allowance) -> Reply
     requires { ⌜ admission size (claimOf (now words)) (checkOf (now words)) ≡ Accepted shape ⌝ }
     requires { ⌜ a .left + a .taken < 2 ^ 64 ⌝ }
     ensures { λ r. ⌜ r ≡ reply (ruling size (claimOf (now (words .entry)))) a ⌝ }
 {
-    let mut patterns = [0u64; 1024];
-    matrix::patterns::prepare(words, shape, &mut patterns);
-    let mut order = [0usize; 1024];
-    let mut upto = [0usize; 65];
-    let rows = matrix::order::arrange(words, shape, &patterns, &mut order, &mut upto);
-    let mut kinds = [0u8; 64];
-    let regions = kinds::fill_kinds(words, shape, &mut kinds);
-    let mut values = [0i32; 1024];
-    let mut counts = [0u32; 128];
-    counts[1] = size;
-    let root = shape.root;
-    let h = search::pass(&mut counts, regions, 1);
-    if h == regions {
-        return search::step(
-            words,
-            &patterns,
-            &order,
-            rows,
-            root,
-            size,
-            regions,
-            &counts,
-            &mut values,
-            0,
-            a,
-        );
+    if shape.sets <= region::NARROW_SETS {
+        return rule_narrow(words, size, shape, a);
     }
-    search::splits(
-        &mut counts,
-        &mut values,
-        words,
-        &patterns,
-        &order,
-        &kinds,
-        &upto,
-        rows,
-        root,
-        size,
-        regions,
-        0,
-        h,
-        a,
-    )
+    rule_wide(words, size, shape, a)
 }
 
 // Whether the claim is true at size n, in at most `allowance` evaluations of its matrix.

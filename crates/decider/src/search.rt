@@ -9,9 +9,10 @@ ghost use Rattle.matrix.specs.Known.{Counts, Known, Settled, Kept};
 ghost use Rattle.decider.specs.Rule.{split, rule};
 ghost use Rattle.decider.specs.Plan.{planOf};
 ghost use Rattle.decider.specs.Answer.{reply, halts};
-ghost use Rattle.decider.specs.Standing.{Total, finals, Passed, Prepared, Guided};
+ghost use Rattle.decider.specs.Standing.{Total, finals, Passed, Prepared, Guided, Arranged, Startable};
 use crate::allowance::Allowance;
 use crate::allowance::Reply;
+use crate::prepare::Arrangement;
 
 // The kind of a quantifier "exists set".
 const EXISTS: u8 = 3;
@@ -151,13 +152,13 @@ fn advance(
 
 // Split h and all after it, the inside count of each region tried from 0 up. The nodes before place `known` of the order stand already.
 pub fn splits(
-    counts: &mut [u32; 128],
-    values: &mut [i32; 1024],
+    counts: &mut [u32],
+    values: &mut [i32],
     words: &[i32],
-    patterns: &[u64; 1024],
-    order: &[usize; 1024],
-    kinds: &[u8; 64],
-    upto: &[usize; 65],
+    patterns: &[u64],
+    order: &[usize],
+    kinds: &[u8],
+    upto: &[usize],
     rows: usize,
     root: usize,
     size: u32,
@@ -239,4 +240,60 @@ pub fn splits(
         truth: !some,
         rest,
     }
+}
+
+// The rule from split h on, where the regions from h up to 2 h - 1 have the counts that stand.
+pub fn search(
+    words: &[i32],
+    patterns: &[u64],
+    order: &[usize],
+    upto: &[usize],
+    kinds: &[u8],
+    arrangement: Arrangement,
+    root: usize,
+    size: u32,
+    h: usize,
+    counts: &mut [u32],
+    values: &mut [i32],
+    a: Allowance,
+) -> Reply
+    requires { ⌜ Arranged (claimOf (now words)) (now patterns) (now order) (now upto) (now kinds) (arrangement .rows) (arrangement .regions) ⌝ }
+    requires { ⌜ Startable (now words) root size (arrangement .regions) h (length (now values)) (now counts) ⌝ }
+    requires { ⌜ a .left + a .taken < 2 ^ 64 ⌝ }
+    ensures { λ r. ⌜ r ≡ reply (rule (planOf (claimOf (now (words .entry)))) (arrangement .regions - h) h (take (h + h) (now (counts .entry)))) a ⌝ }
+{
+    let rows = arrangement.rows;
+    let regions = arrangement.regions;
+    let first = pass(counts, regions, h);
+    if first == regions {
+        return step(
+            words,
+            patterns,
+            order,
+            rows,
+            root,
+            size,
+            regions,
+            counts,
+            values,
+            0,
+            a,
+        );
+    }
+    splits(
+        counts,
+        values,
+        words,
+        patterns,
+        order,
+        kinds,
+        upto,
+        rows,
+        root,
+        size,
+        regions,
+        0,
+        first,
+        a,
+    )
 }

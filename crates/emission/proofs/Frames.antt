@@ -19,6 +19,7 @@ use Rattle.checker.specs.Sorts as Sorts
 use Rattle.checker.specs.Sorts.{isSetQ}
 use Rattle.checker.specs.Check.{maxQuantifiers, maxSets}
 use Rattle.region.proofs.Regions.{dbl-is}
+use Rattle.region.specs.Pattern.{patternBits}
 use Rattle.emission.specs.declared.Frame as code
 use Rattle.emission.specs.Emission.{Frame, regionNode, start, withNumber, withSet, inside, insideAll}
 use Rattle.emission.specs.Plan.{placeAt, placeIn, firstOf, Says, frameAt, Planned}
@@ -50,17 +51,17 @@ pub regions-are : (qs : List Quantifier) → insideAll start qs .regions ≡ 2 ^
 unfolding start
 regions-are qs = regions-power qs start ∙ one-mul (2 ^ Sorts.sets qs)
 
-pub regions-few : (qs : List Quantifier) → Sorts.sets qs ≤ maxSets → insideAll start qs .regions ≤ 64
+pub regions-few : (qs : List Quantifier) → Sorts.sets qs ≤ maxSets → insideAll start qs .regions ≤ patternBits
 regions-few qs h = rw (regions-are qs) (pow-le-pow-right {n = 2} (omega arith) h)
 
 -- the emitted quantifiers are far from too many
-pub next-small : (qs : List Quantifier) → length qs ≤ maxQuantifiers → Sorts.sets qs ≤ maxSets → insideAll start qs .next ≤ 160
+pub next-small : (qs : List Quantifier) → length qs ≤ maxQuantifiers → Sorts.sets qs ≤ maxSets → insideAll start qs .next ≤ maxQuantifiers + 2 * patternBits
 unfolding start
 next-small qs l s = omega (arith, next-is qs start, quantifiers-length qs start, regions-few qs s)
 
 -- the same for what the first j quantifiers give
 pub says-small : (qs : List Quantifier) (j : ℕ) {f : code.Frame} → length qs ≤ maxQuantifiers → Sorts.sets qs ≤ maxSets → Says (take j qs) f
-    → (f .next ≤ 160) × (f .level ≤ maxSets)
+    → (f .next ≤ maxQuantifiers + 2 * patternBits) × (f .level ≤ maxSets)
 says-small qs j l s f =
     let few : Sorts.sets (take j qs) ≤ maxSets = omega (arith, sets-front j qs) in
     let short : length (take j qs) ≤ maxQuantifiers = omega (arith, length-take j qs) in
@@ -130,7 +131,7 @@ first-low (intQ some ∷ qs) f h = first-low qs (withNumber f) (omega arith)
 first-low (setQ some ∷ qs) f h = first-low qs (withSet f) (omega arith)
 first-low (countQ some ∷ qs) f h = first-low qs (withNumber f) (omega arith)
 
-pub first-small : {qs : List Quantifier} {f : code.Frame} → Says qs f → length qs ≤ maxQuantifiers → Sorts.sets qs ≤ maxSets → f .first ≤ 160
+pub first-small : {qs : List Quantifier} {f : code.Frame} → Says qs f → length qs ≤ maxQuantifiers → Sorts.sets qs ≤ maxSets → f .first ≤ maxQuantifiers + 2 * patternBits
 unfolding start
 first-small {qs} {f} s l m = omega (arith, s .first, first-low qs start (omega arith), next-small qs l m)
 

@@ -17,7 +17,7 @@ use Rattle.checker.specs.Words.{word, wordAt, fields, fieldsOf, claimOf}
 use Rattle.checker.specs.Sorts.{Fits}
 use Rattle.checker.specs.Meaning.{Set}
 use Rattle.region.specs.Regions.{minus, covered}
-use Rattle.region.specs.Pattern.{patternBits, regionsFrom}
+use Rattle.region.specs.Pattern.{roomIn, regionsFrom}
 use Rattle.region.proofs.Covered.{covered-within}
 use Rattle.region.proofs.Pattern.{covered-cut}
 use Rattle.emission.specs.declared.Frame as code
@@ -26,7 +26,7 @@ use Rattle.emission.specs.Plan.{placeIn, frameAt, Says}
 use Rattle.emission.specs.Runs.{frameOf, emittedTo, runAt, Patterned, Standing, Ready, Single, without}
 use Rattle.emission.proofs.Steps.{number-at}
 use Rattle.emission.proofs.Claims.{kind-is, first-is, second-is}
-use Rattle.emission.proofs.Frames.{regions-few, place-is}
+use Rattle.emission.proofs.Frames.{place-is}
 use Rattle.emission.proofs.Ready.{known, few, here, of-its-kind, fitting, inside-claim}
 use Rattle.emission.proofs.Sets.{SetChild, set-child}
 use Rattle.emission.proofs.Walk.{stands-at, stands-below}
@@ -265,15 +265,12 @@ module _ {ws : List ℤ} {shape : Shape} {plan : List ℕ} {i : ℕ} (ready : Re
   -- ---- nodes of sets
 
   module _ {patterns : List ℕ} (patterned : Patterned (claimOf ws) patterns i) {f : code.Frame} (says : Says (claimOf ws .quantifiers) f) (at : ℕ) (counted : at ≡ before) where
-    abbrev many : frameOf (claimOf ws) .regions ≤ patternBits
-    many = regions-few (claimOf ws .quantifiers) (omega (arith, known ready .sets, known ready .few-sets))
-
     without-is : (x y : ℕ) → SetChild ready patterned x → SetChild ready patterned y
         → covered 0 (frameOf (claimOf ws) .regions) (minus (covering x) (covering y)) ≡ without patterns x y
     unfolding without
     without-is x y s t =
-        sym (covered-within (frameOf (claimOf ws) .regions) patternBits (minus (covering x) (covering y)) many)
-        ∙ ap (covered 0 patternBits)
+        sym (covered-within (frameOf (claimOf ws) .regions) (roomIn patterns) (minus (covering x) (covering y)) (patterned .room))
+        ∙ ap (covered 0 (roomIn patterns))
         (fun-ext (λ r. sym (ap₂ (λ u v. u && not v) (s .covers r) (t .covers r) ∙ minus-cut (ltb r (frameOf (claimOf ws) .regions)) (covering x r) (covering y r))))
 
     pub card-child : wordAt ws (3 * i) ≡ 16 → SetChild ready patterned a
@@ -284,7 +281,7 @@ module _ {ws : List ℤ} {shape : Shape} {plan : List ℕ} {i : ℕ} (ready : Re
     unfolding runOf wordAt
     run-card e =
         run-is (card a) (of-its-kind ready 16 e)
-        ∙ rw (place-is says, ← counted, ← covered-cut (frameOf (claimOf ws) .regions) patterns a (covering a) many (card-child e .covers))
+        ∙ rw (place-is says, ← counted, ← covered-cut (frameOf (claimOf ws) .regions) patterns a (covering a) (patterned .room) (card-child e .covers))
 
     pub equal-children : wordAt ws (3 * i) ≡ 23 → SetChild ready patterned a × SetChild ready patterned b
     unfolding wordAt

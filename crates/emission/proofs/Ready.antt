@@ -11,9 +11,14 @@ use Rattle.checker.specs.Claim.{Node, unknown}
 use Rattle.checker.specs.Kinds.{nodeOf, sortTable, entryIn}
 use Rattle.checker.specs.Words.{word, wordAt, nodeAt, claimOf}
 use Rattle.checker.specs.Sorts.{Fits}
-use Rattle.emission.specs.Runs.{Ready}
+use Rattle.checker.specs.declared.Checked.the-variants.{Accepted}
+use Rattle.checker.specs.Check.{checkOf}
+use Rattle.region.specs.Pattern.{Roomy}
+use Rattle.emission.specs.Runs.{Patterned, Ready}
 use Rattle.checker.proofs.Claims.{Sound, sound}
 use Rattle.emission.proofs.Claims.{node-is, node-fits}
+use Rattle.emission.proofs.Frames.{regions-are}
+use Rattle.emission.proofs.Walk.{patterned-none}
 
 of-kind : (ws : List ℤ) (i k : ℕ) → wordAt ws (3 * i) ≡ k → nodeAt ws i ≡ entryIn sortTable k .node (word ws (3 * i + 1)) (word ws (3 * i + 2))
 unfolding wordAt nodeOf
@@ -41,3 +46,10 @@ module _ {ws : List ℤ} {shape : Shape} {plan : List ℕ} {i : ℕ} (ready : Re
   -- no node of an accepted claim is of kind 0
   pub kind-some : wordAt ws (3 * i) ≡ 0 → ⊥
   kind-some e = fitting unknown (of-its-kind 0 e)
+
+-- before the first node nothing is asked of the table but its room
+pub patterned-start : (ws : List ℤ) {shape : Shape} {patterns : List ℕ} → checkOf ws ≡ Accepted shape → Roomy shape patterns → Patterned (claimOf ws) patterns 0
+patterned-start ws {shape} {patterns} accepted roomy =
+    let claim = sound ws shape accepted in
+    patterned-none (claimOf ws) patterns (omega (arith, claim .nodes, roomy .long))
+    (rw (regions-are (claimOf ws .quantifiers), ← claim .sets) (roomy .room))

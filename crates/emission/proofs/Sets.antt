@@ -4,10 +4,11 @@ use mathlib.Core.Path.{_≡_, refl, sym, ap, ap₂, _∙_, fun-ext}
 use mathlib.Core.Bool.{Bool, true, false, cond, not, _&&_, _||_}
 use mathlib.Core.List.{List, _∷_}
 use Prim.Native.Nat.{ℕ, suc, _+_, _*_, _-_, _^_, _≤_, _<_}
+use native.Mathlib.Nat.{sub-zero}
 use native.Mathlib.Omega.{arith}
 use lib.Dec.{ltb}
 use lib.IntN.{ℤ}
-use lib.ListN.{length, getD, take, drop}
+use lib.ListN.{getD, take, drop}
 use Rattle.checker.specs.declared.Shape.{Shape}
 use Rattle.checker.specs.declared.Sort.the-variants.{ASet, ATerm, AFormula, NoSort}
 use Rattle.checker.specs.Claim.{Node, setVar, empty, whole, union, inter, compl, Quantifier, intQ, setQ, countQ}
@@ -19,7 +20,8 @@ use Rattle.checker.specs.Meaning.{Set}
 use Rattle.checker.proofs.Fitting.{sort-kind}
 use Rattle.checker.proofs.Sorts.{above}
 use Rattle.region.specs.Regions.{minus, covered}
-use Rattle.region.specs.Pattern.{covers, patternBits, coversAt, regionsFrom, Put}
+use Rattle.region.specs.Pattern.{covers, wordBits, entries, roomIn, coversAt, regionsFrom, Put}
+use Rattle.region.proofs.Pattern.{words-same}
 use Rattle.emission.specs.declared.Frame as code
 use Rattle.emission.specs.Emission.{Frame, none, start, insideAll, patternOf}
 use Rattle.emission.specs.Plan.{frameAt}
@@ -112,11 +114,14 @@ spared-put p = record { long = p .long; kept = p .kept }
 pub difference-regions : {before after : List ℕ} {i : ℕ} (a b : ℕ) → Put before i (minus (coversAt before a) (coversAt before b)) after
     → regionsFrom after i 0 ≡ without before a b
 unfolding regionsFrom without
-difference-regions a b put = ap (covered 0 patternBits) (fun-ext (put .entry))
+difference-regions {before} {after} a b put =
+    rw (sub-zero (roomIn after)) (ap₂ (λ (w : ℕ) (x : Set). covered 0 (wordBits * w) x) (words-same before after (put .long)) (fun-ext (put .entry)))
 
 pub without-spared : {before after : List ℕ} {i : ℕ} (a b : ℕ) → Spared before i after → (a ≡ i → ⊥) → (b ≡ i → ⊥) → without after a b ≡ without before a b
 unfolding without
-without-spared a b s m n = ap (covered 0 patternBits) (fun-ext (λ r. ap₂ (λ x y. x && not y) (s .kept a m r) (s .kept b n r)))
+without-spared {before} {after} a b s m n =
+    ap₂ (λ (w : ℕ) (x : Set). covered 0 (wordBits * w) x) (words-same before after (s .long))
+    (fun-ext (λ r. ap₂ (λ x y. x && not y) (s .kept a m r) (s .kept b n r)))
 
 -- ---- the kinds
 
@@ -133,10 +138,14 @@ module _ {ws : List ℤ} {shape : Shape} {plan patterns : List ℕ} {i : ℕ} (r
   abbrev inside : ℕ → Bool
   inside r = ltb r (frameOf (claimOf ws) .regions)
 
+  -- there is room for the regions of all sets
+  pub sets-room : 2 ^ shape .sets ≤ roomIn patterns
+  sets-room = rw (regions-are (claimOf ws .quantifiers), ← known ready .sets) at (patterned .room)
+
   -- what is known of a child that is a set
   pub record SetChild (x : ℕ) : Type 0 where
     pub before : x < i
-    pub entry : x < length patterns
+    pub entry : x < entries patterns
     pub covers : (r : ℕ) → coversAt patterns x r ≡ (inside r && covering x r)
 
   pub set-child : (x : ℕ) → Is ASet (take i (claimOf ws .nodes)) x → SetChild x

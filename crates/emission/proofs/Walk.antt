@@ -15,7 +15,8 @@ use Rattle.checker.specs.declared.Sort.the-variants.{ASet}
 use Rattle.checker.specs.Claim.{Node, unknown, Claim}
 use Rattle.checker.specs.Sorts.{sort}
 use Rattle.checker.specs.Meaning.{Set}
-use Rattle.region.specs.Pattern.{coversAt}
+use Rattle.region.specs.Pattern.{entries, roomIn, coversAt}
+use Rattle.region.proofs.Pattern.{words-same}
 use Rattle.emission.specs.Emission.{Frame, none, last, runOf, patternOf, Emitted, emitNode, emitNodes, body}
 use Rattle.emission.specs.Runs.{frameOf, emittedTo, runAt, Patterned, Standing}
 use Rattle.emission.proofs.Steps as Steps
@@ -120,6 +121,7 @@ module _ (c : Claim) (i : ℕ) (h : i < length (c .nodes)) where
   patterned-next {before} {after} p long kept entry =
       record {
         long = omega (arith, p .long);
+        room = omega (arith, p .room, words-same before after long);
         covers =
             below-more
             (λ a. sort (getD (c .nodes) a unknown) ≡ ASet → (r : ℕ)
@@ -148,8 +150,8 @@ module _ (c : Claim) (i : ℕ) (h : i < length (c .nodes)) where
   pub stands-at : {stands : List ℕ} → Standing c stands i → (a : ℕ) → a < i → getD stands a 0 ≡ getD (emittedTo c i .stands) a 0
   stands-at {stands} s a l = sym (getD-take i stands a 0 l) ∙ ap (λ xs. getD xs a 0) (s .same)
 
-pub patterned-none : (c : Claim) (patterns : List ℕ) → length (c .nodes) ≤ length patterns → Patterned c patterns 0
-patterned-none c patterns h = record { long = h; covers = λ a l. absurd (omega arith) }
+pub patterned-none : (c : Claim) (patterns : List ℕ) → length (c .nodes) ≤ entries patterns → frameOf c .regions ≤ roomIn patterns → Patterned c patterns 0
+patterned-none c patterns h m = record { long = h; room = m; covers = λ a l. absurd (omega arith) }
 
 pub standing-none : (c : Claim) (stands : List ℕ) → length (c .nodes) ≤ length stands → Standing c stands 0
 unfolding emittedTo emitNodes

@@ -15,7 +15,7 @@ use Rattle.checker.specs.Words.{claimOf}
 use Rattle.checker.specs.Sorts.{sort}
 use Rattle.checker.specs.Check.{checkOf}
 use Rattle.region.specs.Regions.{minus, covered}
-use Rattle.region.specs.Pattern.{patternBits, coversAt}
+use Rattle.region.specs.Pattern.{entries, roomIn, coversAt}
 use Rattle.emission.specs.Emission.{Frame, none, start, insideAll, runOf, Emitted, emitNodes}
 use Rattle.emission.specs.Plan.{Planned}
 
@@ -33,7 +33,8 @@ runAt c i = runOf (frameOf c) (length (e .nodes)) (λ a. getD (e .stands) a 0) (
 
 -- The entries of the set nodes among the first i cover what these nodes do, cut to the regions that there are.
 pub record Patterned (c : Claim) (patterns : List ℕ) (i : ℕ) : Type 0 where
-  pub long : length (c .nodes) ≤ length patterns
+  pub long : length (c .nodes) ≤ entries patterns
+  pub room : frameOf c .regions ≤ roomIn patterns
   pub covers : (a : ℕ) → a < i → sort (getD (c .nodes) a unknown) ≡ ASet → (r : ℕ)
       → coversAt patterns a r ≡ (ltb r (frameOf c .regions) && getD (emittedTo c i .patterns) a none r)
 
@@ -50,7 +51,7 @@ pub record Ready (ws : List ℤ) (shape : Shape) (plan : List ℕ) (i : ℕ) : T
 
 -- the regions that entry a covers and entry b does not
 unfoldable pub without : List ℕ → ℕ → ℕ → List ℕ
-without patterns a b = covered 0 patternBits (minus (coversAt patterns a) (coversAt patterns b))
+without patterns a b = covered 0 (roomIn patterns) (minus (coversAt patterns a) (coversAt patterns b))
 
 -- Every entry but entry i covers what it did.
 pub record Spared (before : List ℕ) (i : ℕ) (after : List ℕ) : Type 0 where

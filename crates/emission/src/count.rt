@@ -1,10 +1,10 @@
 // How many nodes the run of a node takes.
 ghost use mathlib.Core.Path.{_≡_};
 ghost use mathlib.Core.List.{List};
-ghost use Prim.Native.Nat.{ℕ, _+_, _*_, _≤_, _<_};
+ghost use Prim.Native.Nat.{ℕ, _+_, _-_, _*_, _≤_, _<_};
 ghost use lib.ListN.{length};
 ghost use Rattle.checker.specs.Words.{claimOf};
-ghost use Rattle.region.specs.Pattern.{patternBits};
+ghost use Rattle.region.specs.Pattern.{patternBits, entries};
 ghost use Rattle.emission.specs.Emission.{Place, cardRun, emptyRun};
 ghost use Rattle.emission.specs.Runs.{runAt, Patterned, Ready, without, Spared};
 use crate::kinds::CARDINALITY;
@@ -16,7 +16,7 @@ use checker::Shape;
 // Of a cardinality over n regions.
 fn card_length(n: usize) -> usize
     requires { ⌜ n ≤ patternBits ⌝ }
-    ensures { λ r. ⌜ ((p : Place) (at : ℕ) (rs : List ℕ) → n ≡ length rs → r ≡ length (cardRun p at rs)) × (r ≤ 127) ⌝ }
+    ensures { λ r. ⌜ ((p : Place) (at : ℕ) (rs : List ℕ) → n ≡ length rs → r ≡ length (cardRun p at rs)) × (r ≤ 2 * patternBits - 1) ⌝ }
 {
     if n == 0 {
         return 1;
@@ -26,8 +26,8 @@ fn card_length(n: usize) -> usize
 
 // Of the run that says that entry a is within entry b. Entry i takes the difference.
 fn within_length(patterns: &mut [u64], i: usize, a: usize, b: usize) -> usize
-    requires { ⌜ (i < length (now patterns)) × (a < length (now patterns)) × (b < length (now patterns)) ⌝ }
-    ensures { λ r. ⌜ ((p : Place) (at : ℕ) → r ≡ length (emptyRun p at (without (now (patterns .entry)) a b))) × (r ≤ 129) ⌝ }
+    requires { ⌜ (i < entries (now patterns)) × (a < entries (now patterns)) × (b < entries (now patterns)) ⌝ }
+    ensures { λ r. ⌜ ((p : Place) (at : ℕ) → r ≡ length (emptyRun p at (without (now (patterns .entry)) a b))) × (r ≤ 2 * patternBits + 1) ⌝ }
     ensures { λ _. ⌜ Spared (now (patterns .entry)) i (now (patterns .exit)) ⌝ }
 {
     region::put_difference(patterns, i, a, b);
@@ -43,7 +43,7 @@ pub fn run_length(
     patterns: &mut [u64],
 ) -> usize
     requires { ⌜ Ready (now words) shape (now plan) i × Patterned (claimOf (now words)) (now patterns) i ⌝ }
-    ensures { λ n. ⌜ (n ≡ length (runAt (claimOf (now (words .entry))) i)) × (n ≤ 259) ⌝ }
+    ensures { λ n. ⌜ (n ≡ length (runAt (claimOf (now (words .entry))) i)) × (n ≤ 4 * patternBits + 3) ⌝ }
     ensures { λ _. ⌜ Patterned (claimOf (now (words .entry))) (now (patterns .exit)) (i + 1) ⌝ }
 {
     let kind = checker::word(words, 3 * i);

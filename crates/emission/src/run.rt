@@ -6,7 +6,7 @@ ghost use lib.ListN.{length};
 ghost use Rattle.checker.specs.Claim.{sum};
 ghost use Rattle.checker.specs.Words.{claimOf};
 ghost use Rattle.checker.specs.Check.{kindIn};
-ghost use Rattle.region.specs.Pattern.{patternBits, regionsFrom};
+ghost use Rattle.region.specs.Pattern.{patternBits, entries, regionsFrom};
 ghost use Rattle.emission.specs.Emission.{regionNode, cardRun, emptyRun, bothRun};
 ghost use Rattle.emission.specs.Plan.{placeIn};
 ghost use Rattle.emission.specs.Runs.{emittedTo, runAt, Patterned, Standing, Ready, Single, without, Spared};
@@ -43,7 +43,7 @@ fn put_summand(out: &mut [i32], at: usize, frame: Frame, r: usize) -> usize
 
 // How many ports are in the regions that entry i covers.
 fn put_cardinality(patterns: &[u64], i: usize, frame: Frame, out: &mut [i32], at: usize) -> usize
-    requires { ⌜ (i < length (now patterns)) × (frame .first + patternBits ≤ maxNumber) ⌝ }
+    requires { ⌜ (i < entries (now patterns)) × (frame .first + patternBits ≤ maxNumber) ⌝ }
     requires { ⌜ Room (now out) at (length (cardRun (placeIn frame) at (regionsFrom (now patterns) i 0))) ⌝ }
     ensures { λ next. ⌜ WroteNodes (now (out .entry)) at (cardRun (placeIn frame) at (regionsFrom (now (patterns .entry)) i 0)) (now (out .exit)) next ⌝ }
 {
@@ -66,7 +66,7 @@ fn put_cardinality(patterns: &[u64], i: usize, frame: Frame, out: &mut [i32], at
 
 // That no port is in the regions that entry i covers.
 fn put_emptiness(patterns: &[u64], i: usize, frame: Frame, out: &mut [i32], at: usize) -> usize
-    requires { ⌜ (i < length (now patterns)) × (frame .first + patternBits ≤ maxNumber) ⌝ }
+    requires { ⌜ (i < entries (now patterns)) × (frame .first + patternBits ≤ maxNumber) ⌝ }
     requires { ⌜ Room (now out) at (length (emptyRun (placeIn frame) at (regionsFrom (now patterns) i 0))) ⌝ }
     ensures { λ next. ⌜ WroteNodes (now (out .entry)) at (emptyRun (placeIn frame) at (regionsFrom (now (patterns .entry)) i 0)) (now (out .exit)) next ⌝ }
 {
@@ -85,7 +85,7 @@ fn put_within(
     out: &mut [i32],
     at: usize,
 ) -> usize
-    requires { ⌜ (i < length (now patterns)) × (a < length (now patterns)) × (b < length (now patterns)) × (frame .first + patternBits ≤ maxNumber) ⌝ }
+    requires { ⌜ (i < entries (now patterns)) × (a < entries (now patterns)) × (b < entries (now patterns)) × (frame .first + patternBits ≤ maxNumber) ⌝ }
     requires { ⌜ Room (now out) at (length (emptyRun (placeIn frame) at (without (now patterns) a b))) ⌝ }
     ensures { λ next. ⌜ WroteNodes (now (out .entry)) at (emptyRun (placeIn frame) at (without (now (patterns .entry)) a b)) (now (out .exit)) next ⌝ }
     ensures { λ _. ⌜ Spared (now (patterns .entry)) i (now (patterns .exit)) ⌝ }
@@ -104,7 +104,7 @@ fn put_equality(
     out: &mut [i32],
     at: usize,
 ) -> usize
-    requires { ⌜ (i < length (now patterns)) × (a < i) × (b < i) × (frame .first + patternBits ≤ maxNumber) ⌝ }
+    requires { ⌜ (i < entries (now patterns)) × (a < i) × (b < i) × (frame .first + patternBits ≤ maxNumber) ⌝ }
     requires { ⌜ Room (now out) at (length (bothRun (placeIn frame) at (without (now patterns) a b) (without (now patterns) b a))) ⌝ }
     ensures { λ next. ⌜ WroteNodes (now (out .entry)) at (bothRun (placeIn frame) at (without (now (patterns .entry)) a b) (without (now (patterns .entry)) b a)) (now (out .exit)) next ⌝ }
     ensures { λ _. ⌜ Spared (now (patterns .entry)) i (now (patterns .exit)) ⌝ }

@@ -14,7 +14,8 @@ use Rattle.checker.specs.Claim.{Node, setVar, empty, whole, union, inter, compl
 use Rattle.checker.specs.Kinds.{number, sortTable, isSet, nodeOf}
 use Rattle.checker.specs.Sorts.{sort, sets, Is}
 use Rattle.checker.specs.Meaning.{Set, Value, truth, asSet, setAt, World, valueOf}
-use Rattle.region.specs.Pattern.{coversAt, Put}
+use Rattle.region.specs.Pattern.{entries, coversAt, Put}
+use Rattle.region.proofs.Pattern.{words-same}
 use Rattle.matrix.specs.Final.{finalValues}
 use Rattle.matrix.specs.Entry.{entryOf, nodeValues, Filled, Beyond}
 use Rattle.matrix.proofs.Known.{value-at}
@@ -98,10 +99,10 @@ module _ (c : Claim) (i : ℕ) (inside : i < length (c .nodes)) (patterns : List
       ∙ ap asSet (sym (value-at w c a (omega arith)) ∙ sym (getD-take i (nodeValues w c) a (truth false) below)))
 
   -- one entry more
-  module _ (wanted : Set) (after : List ℕ) (room : i < length patterns) (put : Put patterns i wanted after) where
+  module _ (wanted : Set) (after : List ℕ) (room : i < entries patterns) (put : Put patterns i wanted after) where
     pub filled-next : ((w : World) (r : ℕ)
         → wanted r ≡ (ltb r (2 ^ sets (c .quantifiers)) && entryOf (finalValues (c .quantifiers)) (take i (nodeValues w c)) (getD (c .nodes) i unknown) r)) → Filled c (i + 1) after
-    filled-next is = record { long = omega (arith, put .long); entry = λ w j h r. at w j h r (eqb j i) refl }
+    filled-next is = record { long = omega (arith, put .long); room = omega (arith, filled .room, words-same patterns after (put .long)); entry = λ w j h r. at w j h r (eqb j i) refl }
       where
         at : (w : World) (j : ℕ) → j < i + 1 → (r : ℕ) (b : Bool) → eqb j i ≡ b
             → coversAt after j r ≡ (ltb r (2 ^ sets (c .quantifiers)) && entryOf (finalValues (c .quantifiers)) (take j (nodeValues w c)) (getD (c .nodes) j unknown) r)

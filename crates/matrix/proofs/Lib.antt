@@ -14,5 +14,4 @@ pub mod Positions
 pub mod Grown
 mod Filling
 mod Marks
-mod Reaching
 mod Placing

@@ -11,15 +11,13 @@ use lib.Seq.{getD-set-same, getD-set-other}
 use Rattle.checker.specs.Claim.{unknown, Claim}
 use Rattle.checker.specs.Sorts.{AllFit, sets}
 use Rattle.checker.specs.Search.{count}
-use Rattle.checker.specs.Check.{maxSets}
 use Rattle.checker.proofs.Search.{count-le}
 use Rattle.region.specs.Regions.{regions}
-use Rattle.region.specs.Pattern.{patternBits, coversAt}
-use Rattle.region.proofs.Pattern.{regions-fit}
+use Rattle.region.specs.Pattern.{coversAt, End}
 use Rattle.matrix.specs.Entry.{Filled}
 use Rattle.matrix.specs.Work.{children, Every}
 use Rattle.matrix.specs.Order.{Has}
-use Rattle.matrix.specs.Arranged.{marked, Closed, Reach, Placed, Placeable, Passed, Ranked}
+use Rattle.matrix.specs.Arranged.{marked, Closed, Placed, Placeable, Passed, Ranked}
 use Rattle.matrix.specs.Known.{Scheduled}
 use Rattle.matrix.proofs.Known.{children-below}
 use Rattle.matrix.proofs.Marks.{every-map, mark-new, mark-other, mark-still, count-marked, count-room}
@@ -218,19 +216,12 @@ placed-none c n order = record {
 
 -- ---- what the passes come to
 
-module _ (c : Claim) (patterns : List ℕ) (filled : Filled c (length (c .nodes)) patterns) (few : sets (c .quantifiers) ≤ maxSets) where
+module _ (c : Claim) (patterns : List ℕ) (filled : Filled c (length (c .nodes)) patterns) where
   -- no entry covers a region that there is not
   past : (i r : ℕ) → i < length (c .nodes) → 2 ^ sets (c .quantifiers) ≤ r → coversAt patterns i r ≡ false
   past i r h l = rw (filled .entry (regions []) i h r, le-ltb r (2 ^ sets (c .quantifiers)) l)
 
-  settles : (i e : ℕ) → i < length (c .nodes) → Reach patterns i e → (r : ℕ) → e ≤ r → coversAt patterns i r ≡ false
-  settles i e h u r l = go (ltb r patternBits) refl
-    where
-      go : (b : Bool) → ltb r patternBits ≡ b → coversAt patterns i r ≡ false
-      go true t = u .none r l (ltb-true r patternBits t)
-      go false t = past i r h (omega (arith, ltb-false r patternBits t, regions-fit (sets (c .quantifiers)) few))
-
-  reaches : (i e : ℕ) → i < length (c .nodes) → Reach patterns i e → e ≤ 2 ^ sets (c .quantifiers)
+  reaches : (i e : ℕ) → i < length (c .nodes) → End (coversAt patterns i) e → e ≤ 2 ^ sets (c .quantifiers)
   reaches i e h u = go e refl
     where
       go : (k : ℕ) → k ≡ e → k ≤ 2 ^ sets (c .quantifiers)
@@ -241,14 +232,14 @@ module _ (c : Claim) (patterns : List ℕ) (filled : Filled c (length (c .nodes)
           at true t = ltb-true r (2 ^ sets (c .quantifiers)) t
           at false t = absurd (true≢false (sym (u .last r (omega arith)) ∙ past i r h (ltb-false r (2 ^ sets (c .quantifiers)) t)))
 
-  module _ (needed placed : List Bool) (reach order : List ℕ) (n : ℕ) (upto : List ℕ) (known : (i : ℕ) → i < length (c .nodes) → Reach patterns i (getD reach i 0))
+  module _ (needed placed : List Bool) (reach order : List ℕ) (n : ℕ) (upto : List ℕ) (known : (i : ℕ) → i < length (c .nodes) → End (coversAt patterns i) (getD reach i 0))
       (p : Placed c placed order n) (r : Ranked c needed placed reach order n upto (2 ^ sets (c .quantifiers))) where
     pub scheduled : Scheduled patterns (2 ^ sets (c .quantifiers)) order n upto
     scheduled m h = (
       r .most m h,
       λ j _ l q k.
           let below : getD order j 0 < length (c .nodes) = p .ordered .nodes j (omega (arith, r .most m h)) in
-          settles (getD order j 0) (getD reach (getD order j 0) 0) below (known (getD order j 0) below) q (omega (arith, r .settled m h j l)),
+          known (getD order j 0) below .past q (omega (arith, r .settled m h j l)),
     )
 
     pub root-placed : Closed c needed → c .root < length (c .nodes) → Has order n (c .root)

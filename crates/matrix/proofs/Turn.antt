@@ -2,11 +2,12 @@
 use mathlib.Core.Path.{_≡_, sym, ap, subst, _∙_}
 use mathlib.Core.Bool.{true}
 use mathlib.Core.List.{List}
-use Prim.Native.Nat.{ℕ, _+_, _≤_, _<_}
+use Prim.Native.Nat.{ℕ, _+_, _^_, _≤_, _<_}
 use native.Mathlib.Omega.{arith}
 use lib.IntN.{ℤ, natAbs}
-use lib.ListN.{length, getD, set}
+use lib.ListN.{length, getD, set, length-append}
 use Rattle.checker.specs.Claim.{Claim, unknown}
+use Rattle.checker.specs.Sorts.{sets}
 use Rattle.checker.specs.Words.{word, nodeAt, claimOf}
 use Rattle.checker.proofs.Accepted.{accepted-claim}
 use Rattle.checker.proofs.Claims.{node-at}
@@ -24,6 +25,10 @@ use Rattle.matrix.proofs.Known.{next-small, next-earlier, known-next}
 -- the first regions have no more ports than all
 pub open-le : (c : Claim) (N : ℕ) (front : List ℕ) → Open c N front → over (λ r. true) front ≤ N
 open-le c N front o = omega (arith, over-append front (o .rest) (λ r. true), o .counts .total)
+
+-- and they are no more than all
+pub open-few : (c : Claim) (N : ℕ) (front : List ℕ) → Open c N front → length front ≤ 2 ^ sets (c .quantifiers)
+open-few c N front o = omega (arith, length-append front (o .rest), o .counts .regions)
 
 module _ (ws : List ℤ) (N : ℕ) (ready : Ready ws N) (patterns : List ℕ) (filled : Filled (claimOf ws) (length (claimOf ws .nodes)) patterns)
     (order : List ℕ) (known to : ℕ) (ordered : Order (claimOf ws) order to) (counts : List ℕ) (can : Open (claimOf ws) N counts)

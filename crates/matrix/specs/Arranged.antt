@@ -3,11 +3,10 @@
 use mathlib.Core.Path.{_≡_}
 use mathlib.Core.Bool.{Bool, true, false}
 use mathlib.Core.List.{List, [], _∷_}
-use Prim.Native.Nat.{ℕ, _+_, _≤_, _<_}
+use Prim.Native.Nat.{ℕ, _≤_, _<_}
 use lib.ListN.{length, getD, take}
 use Rattle.checker.specs.Claim.{unknown, Claim}
 use Rattle.checker.specs.Search.{count}
-use Rattle.region.specs.Pattern.{patternBits, coversAt}
 use Rattle.matrix.specs.declared.order.Operands.{Operands}
 use Rattle.matrix.specs.Work.{children, Every}
 use Rattle.matrix.specs.Order.{Has, Order}
@@ -30,11 +29,6 @@ pub record Marked (before : List Bool) (nodes : List ℕ) (after : List Bool) : 
 pub record Closed (c : Claim) (marks : List Bool) : Type 0 where
   pub root : marked marks (c .root) ≡ true
   pub children-too : (i : ℕ) → i < length (c .nodes) → marked marks i ≡ true → Every (λ x. marked marks x ≡ true) (children (getD (c .nodes) i unknown))
-
--- The first e regions, and no fewer, settle entry i: it covers none from e on, and it covers the one before.
-pub record Reach (patterns : List ℕ) (i e : ℕ) : Type 0 where
-  pub none : (r : ℕ) → e ≤ r → r < patternBits → coversAt patterns i r ≡ false
-  pub last : (r : ℕ) → e ≡ r + 1 → coversAt patterns i r ≡ true
 
 -- The first n places of the order name the marked nodes.
 pub record Placed (c : Claim) (marks : List Bool) (order : List ℕ) (n : ℕ) : Type 0 where

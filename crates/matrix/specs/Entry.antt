@@ -10,7 +10,7 @@ use Rattle.checker.specs.Claim.{Node, setVar, empty, whole, union, inter, compl
 use Rattle.checker.specs.Sorts.{sets}
 use Rattle.checker.specs.Meaning.{Set, Value, World, setAt, values}
 use Rattle.region.specs.Regions.{minus}
-use Rattle.region.specs.Pattern.{coversAt}
+use Rattle.region.specs.Pattern.{entries, roomIn, coversAt}
 use Rattle.matrix.specs.Final.{finalValues}
 
 -- What the entry of a node covers, from the quantifiers' values `qs` and the earlier nodes' values `vs`: a set node's own regions, those that a
@@ -45,7 +45,8 @@ nodeValues w c = values w (finalValues (c .quantifiers)) [] (c .nodes)
 
 -- The entries of the first n nodes stand in the table, cut to the regions that there are. The world does not matter: no set depends on it.
 pub record Filled (c : Claim) (n : ℕ) (patterns : List ℕ) : Type 0 where
-  pub long : n ≤ length patterns
+  pub long : n ≤ entries patterns
+  pub room : 2 ^ sets (c .quantifiers) ≤ roomIn patterns
   pub entry : (w : World) (i : ℕ) → i < n → (r : ℕ)
       → coversAt patterns i r ≡ (ltb r (2 ^ sets (c .quantifiers)) && entryOf (finalValues (c .quantifiers)) (take i (nodeValues w c)) (getD (c .nodes) i unknown) r)
 

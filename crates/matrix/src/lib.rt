@@ -1,13 +1,12 @@
 // The value of a claim's matrix at the counts of its final regions: bounds of its terms, the patterns of its sets, and the evaluation.
 ghost use mathlib.Core.Path.{_≡_};
-ghost use mathlib.Core.Bool.{true};
-ghost use Prim.Native.Nat.{_^_, _<_, _≤_};
+ghost use Prim.Native.Nat.{_<_, _≤_};
 ghost use lib.Dec.{eqb};
 ghost use lib.ListN.{length};
 ghost use Rattle.checker.specs.Words.{nodeAt, claimOf};
 ghost use Rattle.checker.specs.Meaning.{matrix};
 ghost use Rattle.region.specs.Regions.{over, regions};
-ghost use Rattle.region.specs.Pattern.{coversAt};
+ghost use Rattle.region.specs.Pattern.{coversAt, Counted};
 ghost use Rattle.matrix.specs.Final.{finalValues};
 ghost use Rattle.matrix.specs.Entry.{Filled};
 ghost use Rattle.matrix.specs.Work.{work};
@@ -21,7 +20,7 @@ pub mod patterns;
 
 // Whether no port is in the regions that entry i covers.
 fn none_in(patterns: &[u64], i: usize, counts: &[u32]) -> bool
-    requires { ⌜ (i < length (now patterns)) × (over (λ r. true) (now counts) < 2 ^ 32) ⌝ }
+    requires { ⌜ Counted (now patterns) i (now counts) ⌝ }
     ensures { λ t. ⌜ t ≡ eqb (over (coversAt (now (patterns .entry)) i) (now (counts .entry))) 0 ⌝ }
 {
     region::ports_in(patterns, i, counts) == 0
@@ -37,7 +36,7 @@ fn value(
     i: usize,
 ) -> i32
     requires { ⌜ Workable (now words) size (over (coversAt (now patterns) i) (now counts)) (now values) i ⌝ }
-    requires { ⌜ (i < length (now patterns)) × (over (λ r. true) (now counts) < 2 ^ 32) ⌝ }
+    requires { ⌜ Counted (now patterns) i (now counts) ⌝ }
     ensures { λ v. ⌜ v ≡ work size (over (coversAt (now (patterns .entry)) i) (now (counts .entry))) (now (values .entry)) (nodeAt (now (words .entry)) i) ⌝ }
 {
     let kind = words[3 * i];

@@ -7,10 +7,11 @@ ghost use lib.ListN.{length, getD};
 ghost use Rattle.checker.specs.declared.Checked.the-variants.{Accepted};
 ghost use Rattle.checker.specs.Words.{nodeAt, claimOf};
 ghost use Rattle.checker.specs.Check.{maxSets, checkOf};
+ghost use Rattle.region.specs.Pattern.{entries, coversAt, End};
 ghost use Rattle.matrix.specs.Entry.{Filled};
 ghost use Rattle.matrix.specs.Work.{children, Every};
 ghost use Rattle.matrix.specs.Order.{Has, Order};
-ghost use Rattle.matrix.specs.Arranged.{listed, marked, Marked, Closed, Reach, Placed, Placeable, Passed, Ranked};
+ghost use Rattle.matrix.specs.Arranged.{listed, marked, Marked, Closed, Placed, Placeable, Passed, Ranked};
 ghost use Rattle.matrix.specs.Known.{Scheduled};
 use checker::Shape;
 
@@ -126,28 +127,14 @@ fn all_marked(marks: &[bool], o: Operands) -> bool
     marks[second]
 }
 
-// How many of the first regions settle entry i: one more than the last that it covers.
-fn reach_of(patterns: &[u64], i: usize) -> usize
-    requires { ⌜ i < length (now patterns) ⌝ }
-    ensures { λ e. ⌜ Reach (now (patterns .entry)) i e ⌝ }
-{
-    let mut left = region::size(patterns, i);
-    let mut end = 0;
-    while 0 < left {
-        end = region::next(patterns, i, end) + 1;
-        left -= 1;
-    }
-    end
-}
-
-// The same for the first n entries.
+// How many of the first regions settle each of the first n entries: one more than the last that it covers.
 fn fill_reach(patterns: &[u64], n: usize, reach: &mut [usize])
-    requires { ⌜ (n ≤ length (now patterns)) × (n ≤ length (now reach)) ⌝ }
-    ensures { λ _. ⌜ ((i : ℕ) → i < n → Reach (now (patterns .entry)) i (getD (now (reach .exit)) i 0)) ⌝ }
+    requires { ⌜ (n ≤ entries (now patterns)) × (n ≤ length (now reach)) ⌝ }
+    ensures { λ _. ⌜ ((i : ℕ) → i < n → End (coversAt (now (patterns .entry)) i) (getD (now (reach .exit)) i 0)) ⌝ }
 {
     let mut i = 0;
     while i < n {
-        let e = reach_of(patterns, i);
+        let e = region::end(patterns, i);
         reach[i] = e;
         i += 1;
     }

@@ -1,13 +1,14 @@
 // The table of patterns: one entry a node, filled once.
 ghost use mathlib.Core.Path.{_≡_};
 ghost use mathlib.Core.Bool.{true};
-ghost use Prim.Native.Nat.{_+_, _*_, _≤_, _<_};
-ghost use lib.ListN.{length, getD, drop};
+ghost use Prim.Native.Nat.{_+_, _*_, _<_};
+ghost use lib.ListN.{getD, drop};
 ghost use Rattle.checker.specs.declared.Checked.the-variants.{Accepted};
 ghost use Rattle.checker.specs.Claim.{intQ};
 ghost use Rattle.checker.specs.Words.{claimOf};
 ghost use Rattle.checker.specs.Sorts.{isSetQ, sets};
 ghost use Rattle.checker.specs.Check.{checkOf};
+ghost use Rattle.region.specs.Pattern.{Roomy};
 ghost use Rattle.matrix.specs.Entry.{Filled, Beyond};
 use checker::Shape;
 
@@ -45,7 +46,7 @@ fn position(words: &[i32], shape: Shape, q: usize) -> usize
 // Fills the entry of node i, where those of the nodes before it stand.
 fn put_entry(words: &[i32], shape: Shape, patterns: &mut [u64], i: usize)
     requires { ⌜ checkOf (now words) ≡ Accepted shape ⌝ }
-    requires { ⌜ (i < shape .nodes) × (i < length (now patterns)) ⌝ }
+    requires { ⌜ (i < shape .nodes) × Roomy shape (now patterns) ⌝ }
     requires { ⌜ Filled (claimOf (now words)) i (now patterns) ⌝ }
     ensures { λ _. ⌜ Filled (claimOf (now (words .entry))) (i + 1) (now (patterns .exit)) ⌝ }
     ensures { λ _. ⌜ Beyond (i + 1) (now (patterns .entry)) (now (patterns .exit)) ⌝ }
@@ -70,7 +71,7 @@ fn put_entry(words: &[i32], shape: Shape, patterns: &mut [u64], i: usize)
 // Fills the entries of all nodes.
 pub fn prepare(words: &[i32], shape: Shape, patterns: &mut [u64])
     requires { ⌜ checkOf (now words) ≡ Accepted shape ⌝ }
-    requires { ⌜ shape .nodes ≤ length (now patterns) ⌝ }
+    requires { ⌜ Roomy shape (now patterns) ⌝ }
     ensures { λ _. ⌜ Filled (claimOf (now (words .entry))) (shape .nodes) (now (patterns .exit)) ⌝ }
     ensures { λ _. ⌜ Beyond (shape .nodes) (now (patterns .entry)) (now (patterns .exit)) ⌝ }
 {

@@ -12,16 +12,14 @@ ghost use Rattle.reader.specs.Answer.{writes, readOf, outAfter};
 use checker::Checked;
 use checker::Dialect;
 use checker::Refusal;
+use checker::names::MAX_EMITTED_NODES;
+use checker::names::MAX_EMITTED_QUANTIFIERS;
 
 mod passing; // a text held against what the writer would write
 mod table; // the words of the claim that a text is scanned as
 
-// The most nodes and quantifiers that the writer takes, and the words of such a claim.
-const MOST_NODES: usize = 136576;
-
-const MOST_QUANTIFIERS: usize = 152;
-
-const MOST_WORDS: usize = 3 * MOST_NODES + MOST_QUANTIFIERS + 4;
+// The words of the largest claim that the writer takes.
+const MOST_WORDS: usize = 3 * MAX_EMITTED_NODES + MAX_EMITTED_QUANTIFIERS + 4;
 
 // How many words were read, or a refusal.
 pub enum Read {

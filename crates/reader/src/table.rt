@@ -10,8 +10,8 @@ ghost use Rattle.sentence.specs.Scan.{nodesFrom, quantifiersFrom, scan};
 ghost use Rattle.scanner.specs.Places.{most, signed};
 ghost use Rattle.reader.specs.Held.{held};
 ghost use Rattle.reader.specs.Runs.{limits, mostWords, lineWords, trailerWords, RunPut};
-use crate::MOST_NODES;
-use crate::MOST_QUANTIFIERS;
+use checker::names::MAX_EMITTED_NODES;
+use checker::names::MAX_EMITTED_QUANTIFIERS;
 use scanner::Line;
 
 const MARK: u64 = 2005;
@@ -70,7 +70,7 @@ fn put_nodes(text: &[u8], at: usize, words: &mut [i32]) -> Run
 {
     let mut here = at;
     let mut i = 0;
-    while i < MOST_NODES {
+    while i < MAX_EMITTED_NODES {
         if !scanner::byte_is(text, here, 0, b'(') {
             return Run {
                 count: i,
@@ -96,7 +96,7 @@ fn put_quantifiers(text: &[u8], at: usize, words: &mut [i32], from: usize) -> Ru
 {
     let mut here = at;
     let mut i = 0;
-    while i < MOST_QUANTIFIERS {
+    while i < MAX_EMITTED_QUANTIFIERS {
         if !scanner::quantifies(text, here) {
             return Run {
                 count: i,

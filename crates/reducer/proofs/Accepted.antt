@@ -6,11 +6,13 @@ use mathlib.Core.List.{List}
 use Prim.Native.Nat.{ℕ, _≤_}
 use lib.IntN.{ℤ}
 use lib.ListN.{length}
+use Rattle.checker.specs.declared.Dialect.the-variants.{Emitted}
 use Rattle.checker.specs.declared.Shape.{Shape}
 use Rattle.checker.specs.declared.Checked.the-variants.{Accepted}
 use Rattle.checker.specs.Words.{claimOf, wordsOf}
 use Rattle.checker.specs.Sorts.{sets}
 use Rattle.checker.specs.Meaning.{TrueAt}
+use Rattle.checker.specs.Dialect.{mostNodes, mostQuantifiers}
 use Rattle.checker.specs.Check.{checkOf}
 use Rattle.checker.proofs.Accepted.{accepted-claim}
 use Rattle.emission.specs.Emission.{emission}
@@ -26,8 +28,8 @@ module _ (ws : List ℤ) (s : Shape) (accepted : checkOf ws ≡ Accepted s) wher
   pub accepted-unchanged : NoSetNodes (claimOf ws .nodes) → sets (claimOf ws .quantifiers) ≡ 0 → wordsOf (emission (claimOf ws)) ≡ ws
   accepted-unchanged free none = let a = accepted-claim ws s accepted in words-unchanged ws (a .sorted) free none (a .words)
 
-  pub accepted-nodes : length (emission (claimOf ws) .nodes) ≤ 136576
+  pub accepted-nodes : length (emission (claimOf ws) .nodes) ≤ mostNodes Emitted
   accepted-nodes = let l = accepted-claim ws s accepted .limited in nodes-limit (claimOf ws) (l .few-nodes) (l .few-sets)
 
-  pub accepted-quantifiers : length (emission (claimOf ws) .quantifiers) ≤ 152
+  pub accepted-quantifiers : length (emission (claimOf ws) .quantifiers) ≤ mostQuantifiers Emitted
   accepted-quantifiers = let l = accepted-claim ws s accepted .limited in quantifiers-limit (claimOf ws) (l .few-quantifiers) (l .few-sets)

@@ -14,6 +14,7 @@ use Rattle.checker.specs.declared.Shape.{Shape}
 use Rattle.checker.specs.Claim.{Quantifier, intQ, setQ, countQ, Claim}
 use Rattle.checker.specs.Kinds.{number, quantifierOf}
 use Rattle.checker.specs.Words.{wordAt, claimOf, nodesWords, quantifierWord, mark, trailer, wordsOf}
+use Rattle.checker.specs.Check.{maxSets}
 use Rattle.checker.proofs.Words.{words-append, words-length}
 use Rattle.emission.specs.Emission.{start, insideAll, emitQuantifiers, body, emission}
 use Rattle.emission.specs.Sizes.{allSets}
@@ -90,7 +91,7 @@ module _ {ws : List ℤ} {shape : Shape} (s : Sound ws shape) where
   pub regions-some : 1 ≤ 1 * 2 ^ shape .sets % 2 ^ 64
   regions-some = omega (arith, regions-are (shape .sets) (s .few-sets), pow-pos (shape .sets))
 
-  pub regions-few : 1 * 2 ^ shape .sets % 2 ^ 64 ≤ 64
+  pub regions-few : 1 * 2 ^ shape .sets % 2 ^ 64 ≤ 2 ^ maxSets
   regions-few = rw (regions-are (shape .sets) (s .few-sets)) (pow-le-pow-right {n = 2} (omega arith) (s .few-sets))
 
 pub alls-start : (qs : List Quantifier) → allSets (take 0 qs) ≡ 0

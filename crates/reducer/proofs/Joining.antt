@@ -51,7 +51,7 @@ module _ {qs : List Quantifier} {f : code.Frame} (s : Says qs f) where
 within : (qs : List Quantifier) (j : ℕ) {f : code.Frame} → length qs ≤ maxQuantifiers → sets qs ≤ maxSets → Says (take j qs) f → Within f
 within qs j {f} l m s =
     let small = says-small qs j l m s in
-    let few : 2 ^ f .level ≤ 64 = pow-le-pow-right {n = 2} (omega arith) (small .1) in
+    let few : 2 ^ f .level ≤ 2 ^ maxSets = pow-le-pow-right {n = 2} (omega arith) (small .1) in
     record {
       level = small .1;
       regions = omega (arith, small .0, first-below s);

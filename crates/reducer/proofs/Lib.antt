@@ -12,7 +12,7 @@ pub mod Bindings
 pub mod Blocks
 pub mod Reduction
 -- Its form: as many alternations (Alternations), how large it is (Sizes), well sorted (Frames, Fit, Closed), without sets (NoSets), the claim itself
--- where that has no sets (Unchanged), and what the checker says of it (HandedBack). For words that the checker accepts: Accepted. Tables: Examples.
+-- where that has no sets (Unchanged), and what the checker says of it (HandedBack). For words that the checker accepts: Accepted. What a limit of six sets gave: SetLimit. Tables: Examples.
 pub mod Alternations
 pub mod Sizes
 pub mod Frames
@@ -22,6 +22,7 @@ pub mod NoSets
 pub mod Unchanged
 pub mod HandedBack
 pub mod Accepted
+pub mod SetLimit
 pub mod Examples
 -- The code: the constraints in the parts in which they are written (Constraints), one quantifier further (Closing).
 pub mod Constraints

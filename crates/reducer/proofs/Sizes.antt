@@ -3,14 +3,18 @@
 use mathlib.Core.Path.{_≡_, sym, _∙_, ap, subst}
 use mathlib.Core.Bool.{true, false}
 use mathlib.Core.List.{List, [], _∷_, _++_, append-assoc, append-nil}
-use Prim.Native.Nat.{ℕ, zero, suc, _+_, _*_, _-_, _^_, _<_, _≤_}
-use native.Mathlib.Nat.{zero-add, one-le-pow, pow-le-pow-right, one-mul, zero-mul, suc-mul, mul-le-mul}
+use Prim.Native.Nat.{ℕ, _+_, _*_, _-_, _^_, _<_, _≤_}
+use native.Mathlib.Decide.{decLe}
+use native.Mathlib.Nat.{zero-add, one-le-pow, one-mul, zero-mul, suc-mul, mul-le-mul}
 use native.Mathlib.Omega.{arith}
 use lib.ListN.{length, getD, length-append, drop}
+use lib.Pow.{pow-mono}
 use lib.Seq.{drop-append-seam}
 use Rattle.checker.specs.Claim.{Node, Quantifier, Claim, intQ, setQ, countQ}
 use Rattle.checker.specs.Words.{wordsOf}
 use Rattle.checker.specs.Sorts.{sets}
+use Rattle.checker.specs.declared.Dialect.the-variants as dialect
+use Rattle.checker.specs.Dialect.{mostNodes, mostQuantifiers}
 use Rattle.checker.specs.Check.{maxNodes, maxQuantifiers, maxSets}
 use Rattle.checker.proofs.Words.{words-length}
 use Rattle.emission.specs.Emission.{Frame, none, start, insideAll, runOf, Emitted, emitNode, emitNodes, Body, joinSome, joinAll, join, close, body, emission}
@@ -127,22 +131,21 @@ word-count c = words-length (emission c)
 
 -- ---- within the limits of a claim
 
-pub nodes-limit : (c : Claim) → length (c .nodes) ≤ maxNodes → sets (c .quantifiers) ≤ maxSets → length (emission c .nodes) ≤ 136576
+pub nodes-limit : (c : Claim) → length (c .nodes) ≤ maxNodes → sets (c .quantifiers) ≤ maxSets → length (emission c .nodes) ≤ mostNodes dialect.Emitted
 nodes-limit c n s =
-    let r : regionCount c ≤ 64 = pow-le-pow-right {n = 2} (omega arith) s in
-    let w : 2 * regionCount c + 5 ≤ 133 = omega arith in
-    let m : length (c .nodes) * (2 * regionCount c + 5) ≤ 1024 * 133 = mul-le-mul n w in
+    let r : regionCount c ≤ 2 ^ maxSets = pow-mono s in
+    let w : 2 * regionCount c + 5 ≤ 2 * 2 ^ maxSets + 5 = omega arith in
+    let m : length (c .nodes) * (2 * regionCount c + 5) ≤ maxNodes * (2 * 2 ^ maxSets + 5) = mul-le-mul n w in
     omega (arith, nodes-bound c)
 
-power-limit : (s : ℕ) → s ≤ maxSets → 2 * 2 ^ s ≤ 122 + s
-power-limit zero h = omega arith
-power-limit (suc zero) h = omega arith
-power-limit (suc (suc zero)) h = omega arith
-power-limit (suc (suc (suc zero))) h = omega arith
-power-limit (suc (suc (suc (suc zero)))) h = omega arith
-power-limit (suc (suc (suc (suc (suc zero))))) h = omega arith
-power-limit (suc (suc (suc (suc (suc (suc zero)))))) h = omega arith
-power-limit (suc (suc (suc (suc (suc (suc (suc s))))))) h = absurd (omega arith)
+-- a set makes at least as many regions as it takes quantifiers, so that the most sets make the most quantifiers
+power-limit : (s : ℕ) → s ≤ maxSets → 2 * 2 ^ s + maxSets ≤ 2 * 2 ^ maxSets + s
+power-limit s h = go (decLe maxSets s)
+  where
+    go : Dec (maxSets ≤ s) → 2 * 2 ^ s + maxSets ≤ 2 * 2 ^ maxSets + s
+    go (yes k) = omega (arith, pow-mono h)
+    go (no k) = omega (arith, pow-mono {i = s} {j = maxSets - 1} (omega arith))
 
-pub quantifiers-limit : (c : Claim) → length (c .quantifiers) ≤ maxQuantifiers → sets (c .quantifiers) ≤ maxSets → length (emission c .quantifiers) ≤ 152
+pub quantifiers-limit : (c : Claim) → length (c .quantifiers) ≤ maxQuantifiers → sets (c .quantifiers) ≤ maxSets
+    → length (emission c .quantifiers) ≤ mostQuantifiers dialect.Emitted
 quantifiers-limit c n s = omega (arith, quantifier-count c, power-limit (sets (c .quantifiers)) s)

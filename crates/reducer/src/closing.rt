@@ -2,6 +2,7 @@
 ghost use Prim.Native.Nat.{_*_, _≤_};
 ghost use lib.ListN.{length};
 ghost use Rattle.checker.specs.Words.{claimOf, wordsOf};
+ghost use Rattle.region.specs.Pattern.{Roomy};
 ghost use Rattle.emission.specs.Emission.{body, emission};
 ghost use Rattle.lent.specs.Write.{Wrote};
 ghost use Rattle.reducer.specs.Closing.{Prepared, Tells, closing};
@@ -29,13 +30,14 @@ pub fn put_emission(
     words: &[i32],
     shape: Shape,
     plan: &[usize],
+    patterns: &mut [u64],
     out: &mut [i32],
     first: Body,
 ) -> usize
-    requires { ⌜ Prepared (now words) shape (now plan) × Tells (body (claimOf (now words))) first ⌝ }
+    requires { ⌜ Prepared (now words) shape (now plan) × Tells (body (claimOf (now words))) first × Roomy shape (now patterns) ⌝ }
     requires { ⌜ length (wordsOf (emission (claimOf (now words)))) ≤ length (now out) ⌝ }
     ensures { λ next. ⌜ Wrote (now (out .entry)) 0 (wordsOf (emission (claimOf (now (words .entry))))) (now (out .exit)) next ⌝ }
 {
-    emission::nodes::put_all(words, shape, plan, out);
+    emission::nodes::put_all(words, shape, plan, patterns, out);
     put_closing(words, shape, plan, out, first)
 }

@@ -4,7 +4,7 @@ use mathlib.Core.Path.{_≡_, refl, sym, _∙_, ap}
 use mathlib.Core.Bool.{Bool, true, false, not, xor, _&&_, _||_, and-true}
 use Prim.Native.Nat.{ℕ, zero, suc, _+_, _-_, _*_, _/_, _%_, _^_, _≤_, _<_}
 use native.Mathlib.Decide.{decLe}
-use native.Mathlib.Nat.{div-one, pow-succ', div-eq-of-lt, zero-div, mod-lt, pow-suc, zero-lt-suc, lt-of-lt-of-le}
+use native.Mathlib.Nat.{div-one, pow-succ', div-eq-of-lt, zero-div, mod-lt, mul-assoc, pow-suc, zero-lt-suc, lt-of-lt-of-le}
 use native.Mathlib.Numerals.{add-one, one-add}
 use native.Mathlib.Omega.{arith}
 use borrow.Author.Tests.{lt-ltb, le-ltb}
@@ -47,6 +47,38 @@ covers-last m p r h k e =
     let parts : p ≡ 1 * 2 ^ r + (p - 2 ^ r) = omega arith in
     let one : p / 2 ^ r ≡ 1 = ap (λ (n : ℕ). n / 2 ^ r) parts ∙ high 1 r (omega arith) in
     rw one
+
+-- what stands above a bit does not matter to it
+covers-low : (k c b : ℕ) → covers (2 ^ suc k * c + b) k ≡ covers b k
+covers-low zero c b =
+    let e : (2 ^ 1 * c + b) % 2 ≡ b % 2 = omega arith in
+    rw (covers-zero (2 ^ 1 * c + b), covers-zero b, e)
+covers-low (suc k) c b =
+    let twice : 2 ^ suc (suc k) * c ≡ 2 * (2 ^ suc k * c) = rw (pow-succ' 2 (suc k)) (mul-assoc 2 (2 ^ suc k) c) in
+    let halves : (2 ^ suc (suc k) * c + b) / 2 ≡ 2 ^ suc k * c + b / 2 = omega arith in
+    rw (covers-suc (2 ^ suc (suc k) * c + b) k, covers-suc b k, halves) (covers-low k c (b / 2))
+
+-- The bits of 64 j + b, b being below 64: the lowest six are those of b, and the others those of j.
+pub covers-in-word : (k j b : ℕ) → k < 6 → covers (64 * j + b) k ≡ covers b k
+covers-in-word k j b h = go k h
+  where
+    part : (k c : ℕ) → 64 * j ≡ 2 ^ suc k * c → covers (64 * j + b) k ≡ covers b k
+    part k c e = rw e (covers-low k c b)
+
+    go : (k : ℕ) → k < 6 → covers (64 * j + b) k ≡ covers b k
+    go zero h = part 0 (32 * j) (omega arith)
+    go (suc zero) h = part 1 (16 * j) (omega arith)
+    go (suc (suc zero)) h = part 2 (8 * j) (omega arith)
+    go (suc (suc (suc zero))) h = part 3 (4 * j) (omega arith)
+    go (suc (suc (suc (suc zero)))) h = part 4 (2 * j) (omega arith)
+    go (suc (suc (suc (suc (suc zero))))) h = part 5 j (omega arith)
+    go (suc (suc (suc (suc (suc (suc k)))))) h = absurd (omega arith)
+
+pub covers-of-word : (k j b : ℕ) → 6 ≤ k → b < 64 → covers (64 * j + b) k ≡ covers j (k - 6)
+covers-of-word k j b h l =
+    let word : (64 * j + b) / 2 ^ 6 ≡ j = omega arith in
+    let place : 6 + (k - 6) ≡ k = omega arith in
+    rw (place, word) at (sym (covers-shift (64 * j + b) 6 (k - 6)))
 
 -- ---- operations on two numbers
 
@@ -111,15 +143,16 @@ covers-minus k p q r hp hq = rw (covers-and p (2 ^ k - 1 - q) r, covers-not k q 
     go (yes h) = rw (covers-high k p r hp h)
     go (no h) = let l : r < k = omega arith in rw (lt-ltb r k l)
 
+-- k bits that are all set
+pub covers-ones : (k r : ℕ) → covers (2 ^ k - 1) r ≡ ltb r k
+covers-ones k r =
+    let all : 2 ^ k - 1 - 0 ≡ 2 ^ k - 1 = omega arith in
+    rw (all, covers-of-zero r, and-true (ltb r k)) at (covers-not k 0 r (pow-pos k))
+
 -- k bits that are all set, moved down until n are left
 pub covers-top : (k n r : ℕ) → n ≤ k → covers ((2 ^ k - 1) / 2 ^ (k - n)) r ≡ ltb r n
-covers-top k n r h = covers-shift (2 ^ k - 1) (k - n) r ∙ ones (k - n + r) ∙ go (decLe n r)
+covers-top k n r h = covers-shift (2 ^ k - 1) (k - n) r ∙ covers-ones k (k - n + r) ∙ go (decLe n r)
   where
-    ones : (j : ℕ) → covers (2 ^ k - 1) j ≡ ltb j k
-    ones j =
-        let all : 2 ^ k - 1 - 0 ≡ 2 ^ k - 1 = omega arith in
-        rw (all, covers-of-zero j, and-true (ltb j k)) at (covers-not k 0 j (pow-pos k))
-
     go : Dec (n ≤ r) → ltb (k - n + r) k ≡ ltb r n
     go (yes l) = rw (le-ltb (k - n + r) k (omega arith), le-ltb r n l)
     go (no l) = rw (lt-ltb (k - n + r) k (omega arith), lt-ltb r n (omega arith))

@@ -2,11 +2,11 @@
 -- that is covered. For any number of bits. Assumes nothing.
 use mathlib.Core.Path.{_≡_, refl, sym, _∙_, ap}
 use mathlib.Core.Bool.{true, false, not, cond, _&&_, and-true, and-self, true≢false}
-use mathlib.Core.List.{List, [], _∷_}
+use mathlib.Core.List.{List, _∷_}
 use Prim.Native.Nat.{ℕ, zero, suc, _+_, _-_, _/_, _%_, _^_, _≤_, _<_}
 use native.Mathlib.Decide.{decLe}
-use native.Mathlib.Nat.{zero-add, mod-lt, zero-lt-suc, pow-suc, lt-irrefl, lt-of-le-of-lt}
-use native.Mathlib.Numerals.{add-one, one-add}
+use native.Mathlib.Nat.{zero-add, mod-lt, zero-lt-suc, pow-suc}
+use native.Mathlib.Numerals.{one-add}
 use native.Mathlib.Omega.{arith}
 use borrow.Author.Tests.{eqb-true, eqb-false}
 use lib.Arith.{lt-one}
@@ -14,11 +14,10 @@ use lib.Bits.{bitAnd}
 use lib.Count.{ones, ones-step, trailingZeros, under}
 use lib.Dec.{eqb, eqb·suc-zero, eqb·suc-suc}
 use lib.ListN.{length, getD, length-map}
-use lib.Pow.{shr-le}
 use Rattle.region.specs.Regions.{covered, over}
 use Rattle.region.specs.Pattern.{covers}
-use Rattle.region.proofs.Bits.{covers-zero, covers-suc, covers-shift, covers-of-zero, covers-high, covers-and}
-use Rattle.region.proofs.Covered.{covered-same, covered-none, covered-shift, covered-first, over-same, over-none, over-without}
+use Rattle.region.proofs.Bits.{covers-zero, covers-suc, covers-of-zero, covers-and}
+use Rattle.region.proofs.Covered.{covered-same, covered-shift, over-same, over-none, over-without}
 
 -- ---- how many bits are set
 
@@ -68,46 +67,6 @@ trailing-lowest (suc k) p pos h =
 
 -- ---- the first region from `from` on
 
-module _ (k p from : ℕ) (h : p < 2 ^ k) where
-  -- a pattern that covers something has a bit there
-  covering-pos : 0 < length (covered from (k - from) (covers p)) → (q : ℕ) → p / 2 ^ from ≡ q → 0 < q
-  covering-pos c zero e =
-      let none : covered from (k - from) (covers p) ≡ [] =
-      covered-none (k - from) from (covers p) (λ r l _. beyond r l) in
-      absurd (lt-irrefl 0 (rw none at c))
-    where
-      beyond : (r : ℕ) → from ≤ r → covers p r ≡ false
-      beyond r l =
-          let place : from + (r - from) ≡ r = omega arith in
-          rw (place, e, covers-of-zero (r - from)) at (sym (covers-shift p from (r - from)))
-  covering-pos c (suc q) e = omega arith
-
-  pub lowest-from : 0 < length (covered from (k - from) (covers p)) → Lowest k (p / 2 ^ from) (trailingZeros k (p / 2 ^ from))
-  lowest-from c = trailing-lowest k (p / 2 ^ from) (covering-pos c _ refl) (lt-of-le-of-lt (shr-le p from) h)
-
-  -- where t is the lowest bit from there on
-  module _ (t : ℕ) (low : Lowest k (p / 2 ^ from) t) where
-    stands : covers p (from + t) ≡ true
-    stands = sym (covers-shift p from t) ∙ low .set
-
-    pub next-below : from + t < k
-    next-below = go (decLe k (from + t))
-      where
-        go : Dec (k ≤ from + t) → from + t < k
-        go (yes l) = absurd (true≢false (sym stands ∙ covers-high k p (from + t) h l))
-        go (no n) = omega arith
-
-    pub next-region : covered from (k - from) (covers p) ≡ (from + t) ∷ covered (from + t + 1) (k - (from + t + 1)) (covers p)
-    next-region =
-        let size : k - from - suc t ≡ k - (from + t + 1) = omega arith in
-        rw (size, ← add-one (from + t)) at
-        (covered-first (k - from) from t (covers p) (omega (arith, next-below)) stands before)
-      where
-        before : (r : ℕ) → from ≤ r → r < from + t → covers p r ≡ false
-        before r l m =
-            let place : from + (r - from) ≡ r = omega arith in
-            rw place at (sym (covers-shift p from (r - from)) ∙ low .under (r - from) (omega arith))
-
 -- ---- without the lowest bit: p & (p - 1)
 
 -- one less: the lowest bit falls, and those above it stay
@@ -136,11 +95,18 @@ lowest-cleared k p t low r = covers-and p (p - 1) r ∙ less-one t p r (low .set
 pub over-no-bits : (cs : List ℕ) → over (covers 0) cs ≡ 0
 over-no-bits cs = over-none cs (covers 0) (λ r _. covers-of-zero r)
 
-module _ (k p : ℕ) (cs : List ℕ) (pos : 0 < p) (h : p < 2 ^ k) where
-  -- every region is below the lowest bit
-  pub over-under : length cs ≤ trailingZeros k p → over (covers p) cs ≡ 0
-  over-under l = over-none cs (covers p) (λ r m. trailing-lowest k p pos h .under r (omega arith))
+-- regions below n alone are covered, and so the lowest of them is one
+pub lowest-within : (k p n : ℕ) → 0 < p → p < 2 ^ k → ((r : ℕ) → n ≤ r → covers p r ≡ false) → trailingZeros k p < n
+lowest-within k p n pos h past = go (decLe n (trailingZeros k p))
+  where
+    go : Dec (n ≤ trailingZeros k p) → trailingZeros k p < n
+    go (yes l) = absurd (true≢false (sym (trailing-lowest k p pos h .set) ∙ past (trailingZeros k p) l))
+    go (no l) = omega arith
 
+pub still-uncovered : (p q r : ℕ) → covers p r ≡ false → covers (bitAnd p q) r ≡ false
+still-uncovered p q r e = rw (covers-and p q r, e)
+
+module _ (k p : ℕ) (cs : List ℕ) (pos : 0 < p) (h : p < 2 ^ k) where
   -- the region of the lowest bit, and those above it
   pub over-lowest : trailingZeros k p < length cs
       → over (covers p) cs ≡ getD cs (trailingZeros k p) 0 + over (covers (bitAnd p (p - 1))) cs

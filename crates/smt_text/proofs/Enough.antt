@@ -8,6 +8,8 @@ use native.Mathlib.Omega.{arith}
 use lib.Dec.{lit<}
 use lib.IntN.{pos}
 use lib.ListN.{length, length-append}
+use Rattle.checker.specs.declared.Dialect.the-variants.{Emitted}
+use Rattle.checker.specs.Dialect.{mostNodes, mostQuantifiers}
 use Rattle.checker.specs.Claim.{Node, Quantifier, Claim, setVar, empty, whole, union, inter, compl, numVar, const, maxc, sum, diff, multiple, card, equal, less, divided, setEqual, subset, conj, disj, neg, unknown, intQ, setQ, countQ}
 use Rattle.checker.specs.Kinds.{number, nodeOf}
 use Rattle.checker.specs.Words.{wordsOf}
@@ -24,11 +26,11 @@ use Rattle.smt_text.proofs.Free.{free, Small, FreeSmall, zero-small}
 
 -- ---- quantifiers
 
-quantifiers-short : (qs : List Quantifier) (i : ℕ) → i + length qs ≤ 152 → length (quantifierLines i qs) ≤ 64 * length qs
+quantifiers-short : (qs : List Quantifier) (i : ℕ) → i + length qs ≤ mostQuantifiers Emitted → length (quantifierLines i qs) ≤ 64 * length qs
 unfolding quantifierLines
 quantifiers-short [] i h = omega arith
 quantifiers-short (q ∷ qs) i h =
-    let line : length (quantifierLine i q) ≤ 64 = quantifier-short i q (lt-of-le-of-lt {m = 152} (omega arith) (lit< tt)) in
+    let line : length (quantifierLine i q) ≤ 64 = quantifier-short i q (lt-of-le-of-lt {m = mostQuantifiers Emitted} (omega arith) (lit< tt)) in
     rw (length-append (quantifierLine i q) (quantifierLines (suc i) qs)) (omega (arith, line, quantifiers-short qs (suc i) (omega arith)))
 
 brackets-few : (qs : List Quantifier) → brackets qs ≤ 2 * length qs
@@ -40,9 +42,9 @@ brackets-few (countQ some ∷ qs) = omega (arith, brackets-few qs)
 
 -- ---- nodes
 
-module _ (qs : List Quantifier) (few : length qs ≤ 152) where
+module _ (qs : List Quantifier) (few : length qs ≤ mostQuantifiers Emitted) where
   -- a node after those that are done
-  module _ (done : List Node) (before : length done ≤ 136576) (i : ℕ) (h : i < 10 ^ 10) where
+  module _ (done : List Node) (before : length done ≤ mostNodes Emitted) (i : ℕ) (h : i < 10 ^ 10) where
     child : (k : ℕ) → k < length done → Small (pos k)
     child k l = record { sfits = omega arith }
 
@@ -74,22 +76,22 @@ module _ (qs : List Quantifier) (few : length qs ≤ 152) where
     node-short (neg a) f s = line-short (pos a) (pos 0) (child a (f .0)) s i 27 h
     node-short unknown f s = absurd f
 
-  nodes-short : (ns done : List Node) → AllFit qs done ns → FreeSmall ns → length done + length ns ≤ 136576
+  nodes-short : (ns done : List Node) → AllFit qs done ns → FreeSmall ns → length done + length ns ≤ mostNodes Emitted
       → length (nodeLines (length done) ns) ≤ 64 * length ns
   unfolding nodeLines
   nodes-short [] done f s h = omega arith
   nodes-short (n ∷ ns) done (f, fs) (s, ss) h =
       let next : length (done ++ n ∷ []) ≡ suc (length done) = omega (arith, length-append done (n ∷ [])) in
-      let line = node-short done (omega arith) (length done) (lt-of-le-of-lt {m = 136576} (omega arith) (lit< tt)) n f s in
+      let line = node-short done (omega arith) (length done) (lt-of-le-of-lt {m = mostNodes Emitted} (omega arith) (lit< tt)) n f s in
       let rest = rw next at (nodes-short ns (done ++ n ∷ []) fs ss (omega (arith, next))) in
       rw (length-append (nodeLine (length done) n) (nodeLines (suc (length done)) ns)) (omega (arith, line, rest))
 
 -- ---- the whole
 
-module _ (c : Claim) (sorted : WellSorted c) (n : length (c .nodes) ≤ 136576) (q : length (c .quantifiers) ≤ 152) (small : FreeSmall (c .nodes)) where
+module _ (c : Claim) (sorted : WellSorted c) (n : length (c .nodes) ≤ mostNodes Emitted) (q : length (c .quantifiers) ≤ mostQuantifiers Emitted) (small : FreeSmall (c .nodes)) where
   pub enough : length (wordsOf c) ≤ lentWords → length (textOf c) ≤ lentBytes
   enough h =
-      let root : length (rootLine (c .root)) ≤ 64 = root-short (c .root) (lt-of-le-of-lt {m = 136576} (omega (arith, sorted .1 .0)) (lit< tt)) in
+      let root : length (rootLine (c .root)) ≤ 64 = root-short (c .root) (lt-of-le-of-lt {m = mostNodes Emitted} (omega (arith, sorted .1 .0)) (lit< tt)) in
       let lines = nodes-short (c .quantifiers) q (c .nodes) [] (sorted .0) small (omega arith) in
       omega (
         arith,

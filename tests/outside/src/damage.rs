@@ -129,7 +129,7 @@ pub fn at_a_limit(random: &mut Random) -> Vec<i32> {
         0 => 1022 + random.below(4),
         _ => 2 + random.below(20),
     };
-    let sets = random.pick(&[0, 1, 5, 6, 6, 7, 8]);
+    let sets = random.pick(&[0, 1, 6, 7, 8, 8, 9, 10]);
     let others = match random.below(3) {
         0 => (30 + random.below(5)) - sets,
         _ => random.below(4),

@@ -1,7 +1,7 @@
 //! The emission: a claim table turned into a counting claim, words to words,
 //! and refusals 12 and 8.
 
-use crate::region::{patterns, sets_outside};
+use crate::region::{patterns, sets_outside, Pattern};
 use crate::table::{check, is_for_all, over_sets, refuse, Claim, Node, Refusal, MARK};
 
 /// The counting claim while it grows. Numbers are wider than words, so that
@@ -70,11 +70,11 @@ impl Emission {
     }
 
     /// The sum over a pattern's regions, rising.
-    fn put_cardinality(&mut self, pattern: u64) -> i64 {
+    fn put_cardinality(&mut self, pattern: &Pattern) -> i64 {
         let splits = self.splits.len();
         let mut sum = None;
-        for region in (0..64).filter(|region| pattern >> region & 1 == 1) {
-            let count = self.put_region(splits, region);
+        for &region in pattern.regions() {
+            let count = self.put_region(splits, region as i64);
             sum = Some(match sum {
                 None => count,
                 Some(so_far) => self.put(13, so_far, count),
@@ -83,7 +83,7 @@ impl Emission {
         sum.unwrap_or_else(|| self.put(11, 0, 0))
     }
 
-    fn put_is_empty(&mut self, pattern: u64) -> i64 {
+    fn put_is_empty(&mut self, pattern: &Pattern) -> i64 {
         let count = self.put_cardinality(pattern);
         let zero = self.put(11, 0, 0);
         self.put(20, count, zero)
@@ -98,9 +98,9 @@ impl Emission {
         for node in &claim.nodes {
             let last = match node.kind {
                 1..=6 => -1,
-                16 => self.put_cardinality(patterns[node.a as usize]),
+                16 => self.put_cardinality(&patterns[node.a as usize]),
                 23 | 24 => {
-                    let (a, b) = (patterns[node.a as usize], patterns[node.b as usize]);
+                    let (a, b) = (&patterns[node.a as usize], &patterns[node.b as usize]);
                     self.put_set_relation(node.kind, a, b)
                 }
                 _ => self.put_renewed(node, &stands),
@@ -110,12 +110,12 @@ impl Emission {
         stands[claim.root as usize]
     }
 
-    fn put_set_relation(&mut self, kind: i32, a: u64, b: u64) -> i64 {
-        let subset = self.put_is_empty(a & !b);
+    fn put_set_relation(&mut self, kind: i32, a: &Pattern, b: &Pattern) -> i64 {
+        let subset = self.put_is_empty(&a.without(b));
         if kind == 24 {
             return subset;
         }
-        let superset = self.put_is_empty(b & !a);
+        let superset = self.put_is_empty(&b.without(a));
         self.put(25, subset, superset)
     }
 

@@ -62,6 +62,7 @@ fn through_library(tally: &mut Tally) {
     tally.group("tables at the limits, checker and reducer", tables::at_limits);
     tally.group("large tables, checker and reducer", tables::large);
     tally.group("decisions at small sizes", decisions::small);
+    tally.group("decisions about seven and eight sets", decisions::many_sets);
     tally.group("decisions at large sizes", decisions::large);
     tally.group("decisions that are refused", decisions::refused);
     tally.group("decisions under every allowance", decisions::every_allowance);

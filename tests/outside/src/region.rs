@@ -16,16 +16,33 @@ pub fn sets_outside(quantifiers: &[i32]) -> Vec<usize> {
     answer
 }
 
-/// The pattern of every node: bit r stands when a set node covers region r.
-/// Nodes that are no sets get 0. Regions are taken one by one, by membership,
-/// so that no table of constants is needed that could be wrong.
-pub fn patterns(claim: &Claim) -> Vec<u64> {
-    let regions = 1usize << claim.sets();
-    let mut patterns = vec![0u64; claim.nodes.len()];
-    for region in 0..regions {
+/// The regions that a set expression covers, rising.
+#[derive(Clone, Default)]
+pub struct Pattern(Vec<usize>);
+
+impl Pattern {
+    pub fn regions(&self) -> &[usize] {
+        &self.0
+    }
+
+    /// Those that it covers and `other` does not.
+    pub fn without(&self, other: &Pattern) -> Pattern {
+        let left = |region: &&usize| other.0.binary_search(region).is_err();
+        Pattern(self.0.iter().filter(left).copied().collect())
+    }
+}
+
+/// The pattern of every node; nodes that are no sets cover nothing. Regions
+/// are taken one by one, by membership, so that no table of constants is
+/// needed that could be wrong.
+pub fn patterns(claim: &Claim) -> Vec<Pattern> {
+    let mut patterns = vec![Pattern::default(); claim.nodes.len()];
+    for region in 0..1usize << claim.sets() {
         let covers = covering(claim, region);
         for (pattern, covered) in patterns.iter_mut().zip(covers) {
-            *pattern |= u64::from(covered) << region;
+            if covered {
+                pattern.0.push(region);
+            }
         }
     }
     patterns

@@ -1,7 +1,7 @@
 //! The decider's rule: refusals 1 to 7, 9, 10 and 11, then truth and steps
 //! within an allowance.
 
-use crate::region::patterns;
+use crate::region::{patterns, Pattern};
 use crate::table::{check, is_for_all, over_sets, refuse, sort, Claim, Node, Refusal, Sort};
 
 pub const SIZE_LIMIT: u32 = 4096;
@@ -76,7 +76,7 @@ pub fn divides(divisor: i128, term: i128) -> bool {
 struct Run<'a> {
     claim: &'a Claim,
     size: u32,
-    patterns: Vec<u64>,
+    patterns: Vec<Pattern>,
     /// The nodes the matrix needs, in order; sets are in the patterns.
     needed: Vec<usize>,
     /// One value per node; formulas hold 0 or 1.
@@ -152,18 +152,16 @@ impl<'a> Run<'a> {
     fn evaluate(&self, node: Node, counts: &[u64]) -> i64 {
         let a = || self.values[node.a as usize];
         let b = || self.values[node.b as usize];
-        let pattern = |word: i32| self.patterns[word as usize];
-        let covered = |pattern: u64| -> u64 {
-            (0..counts.len()).filter(|r| pattern >> r & 1 == 1).map(|r| counts[r]).sum()
-        };
-        let subset = |a: i32, b: i32| covered(pattern(a) & !pattern(b)) == 0;
+        let pattern = |word: i32| &self.patterns[word as usize];
+        let ports = |pattern: &Pattern| pattern.regions().iter().map(|&r| counts[r]).sum::<u64>();
+        let subset = |a: i32, b: i32| ports(&pattern(a).without(pattern(b))) == 0;
         match node.kind {
             11 => i64::from(node.a),
             12 => i64::from(self.size),
             13 => a() + b(),
             14 => a() - b(),
             15 => i64::from(node.a) * b(),
-            16 => covered(pattern(node.a)) as i64,
+            16 => ports(pattern(node.a)) as i64,
             20 => i64::from(a() == b()),
             21 => i64::from(a() < b()),
             22 => i64::from(divides(i128::from(node.a), i128::from(b()))),

@@ -9,7 +9,7 @@ pub const MARK: i32 = 2005;
 pub const TRAILER: usize = 4;
 pub const NODE_LIMIT: i32 = 1024;
 pub const QUANTIFIER_LIMIT: i32 = 32;
-pub const SET_LIMIT: usize = 6;
+pub const SET_LIMIT: usize = 8;
 
 /// Why a claim is not taken, and where.
 #[derive(Clone, Copy, Debug, PartialEq, Eq)]

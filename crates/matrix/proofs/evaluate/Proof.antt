@@ -12,7 +12,7 @@ use Rattle.region.specs.Pattern.{coversAt}
 use Rattle.matrix.specs.Work.{work}
 use Rattle.matrix.specs.Known.{Known, Kept, Workable}
 use Rattle.matrix.proofs.Known.{kept-next}
-use Rattle.matrix.proofs.Turn.{open-le, workable, turned}
+use Rattle.matrix.proofs.Turn.{open-le, open-few, workable, turned}
 use Rattle.matrix.proofs.evaluate.Statement.{statement}
 use Rattle.matrix.proofs.evaluate.Tie as tie
 use Rattle.matrix.proofs.evaluate.Reads as reads
@@ -66,7 +66,16 @@ module _ (c : lts.In-loop (value-reads.Asked, value-reads.Learnt) reads.Pre read
 value-requires : tie.Need-value-requires Inv-loop μ-loop
 value-requires c κs =
     let d = c .before .before in
-    (can d, (omega (arith, s d .pre .1 .0 .long, s d .pre .1 .1 .0 .nodes (l d .k) (d .loop-test .taken)), omega (arith, open-le _ _ _ (s d .pre .1 .1 .1 .1 .0), s d .fits .size .fits)))
+    let k = l d .k in
+    let here : i d < length (claimOf (s d .args .words .now) .nodes) = s d .pre .1 .1 .0 .nodes k (d .loop-test .taken) in (
+      can d,
+      record {
+        entry = omega (arith, s d .pre .1 .0 .long, here);
+        room = omega (arith, s d .pre .1 .0 .room, open-few _ _ _ (s d .pre .1 .1 .1 .1 .0));
+        within = λ r h. s d .pre .1 .1 .1 .1 .1 .0 k (l d .inv .0) (d .loop-test .taken) r h;
+        small = omega (arith, open-le _ _ _ (s d .pre .1 .1 .1 .1 .0), s d .fits .size .fits);
+      },
+    )
 
 mul-v : tie.Need-mul-v Inv-loop μ-loop
 mul-v c = let h : i (c .before .before .before) < length (l (c .before .before .before) .values) = inside (c .before .before .before) in search needs

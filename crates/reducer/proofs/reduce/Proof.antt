@@ -14,8 +14,8 @@ check-requires c κs = search needs
 enum-known-checked : tie.Need-enum-known-checked
 enum-known-checked c = search needs
 
-reduce-claim-requires : tie.Need-reduce-claim-requires
-reduce-claim-requires c κs = sym (c .before .before .before .before .check .ensures) ∙ c .before .before .checked .given .1
+reduce-accepted-requires : tie.Need-reduce-accepted-requires
+reduce-accepted-requires c κs = sym (c .before .before .before .before .check .ensures) ∙ c .before .before .checked .given .1
 
 enum-known-checked-2 : tie.Need-enum-known-checked-2
 enum-known-checked-2 c = search needs
@@ -28,7 +28,7 @@ returns c =
     let a = c .before .before .before .before .before .before .before .args in
     let ws = a .words .now in
     let accepted = sym (c .before .before .before .before .before .before .check .ensures) ∙ c .before .before .before .before .checked .given .1 in
-    let done = c .before .reduce-claim .ensures in
+    let done = c .before .reduce-accepted .ensures in
     let same = done .0 ∙ sym (claim-answer ws (length (a .out .now)) accepted) in
     (same, held ws (a .out .now) same (done .1))
 
@@ -45,7 +45,7 @@ reduce-spec =
     (tie.spec
     check-requires
     enum-known-checked
-    reduce-claim-requires
+    reduce-accepted-requires
     enum-known-checked-2
     same-length
     returns

@@ -1,16 +1,13 @@
--- `region::inside` meets its contract: the table holds for each position the number whose bit r is that bit of r. Assumes nothing.
-use mathlib.Core.Path.{_≡_, sym, _∙_, ap}
-use mathlib.Core.Bool.{false, _&&_, and-false}
-use Prim.Native.Nat.{ℕ, _≤_}
-use native.Mathlib.Decide.{decLe}
+-- `region::inside` meets its contract: the table holds for each of six positions the number whose bit b is that bit of b; at a higher position a word is
+-- all ones or 0. Assumes nothing.
+use mathlib.Core.Path.{sym, _∙_, ap}
+use Prim.Native.Nat.{ℕ, _+_, _*_}
 use native.Mathlib.Omega.{arith}
 use borrow.Author.Needs.{needs}
-use borrow.Author.Tests.{le-ltb}
-use lib.Dec.{ltb}
-use Rattle.checker.specs.Check.{maxSets}
+use borrow.Author.Tests.{lt-ltb, eq-eqb, ne-eqb}
 use Rattle.checker.proofs.Tab.{tab-at}
-use Rattle.region.specs.Pattern.{covers, patternBits}
-use Rattle.region.proofs.Bits.{covers-of-zero, covers-high, mask, covers-mask}
+use Rattle.region.specs.Pattern.{covers, wordBits}
+use Rattle.region.proofs.Bits.{covers-of-zero, covers-high, covers-ones, covers-in-word, covers-of-word, mask, covers-mask}
 use Rattle.region.proofs.inside.Statement.{statement}
 use Rattle.region.proofs.inside.Tie as tie
 
@@ -22,16 +19,32 @@ array-read-result c = search needs
 
 returns : tie.Need-returns
 unfolding covers mask
-returns c r =
-    ap (λ (p : ℕ). covers p r) (tab-at maxSets (λ k. mask patternBits (λ r. covers r k)) 0 (c .before .args .position) (c .if1 .taken))
-    ∙ covers-mask patternBits (λ r. covers r (c .before .args .position)) r
+returns c b h =
+    let k = c .before .args .position in
+    ap (λ (p : ℕ). covers p b) (tab-at 6 (λ k. mask wordBits (λ r. covers r k)) 0 k (c .if1 .taken))
+    ∙ covers-mask wordBits (λ r. covers r k) b ∙ rw (lt-ltb b wordBits h) (sym (covers-in-word k (c .before .args .j) b (c .if1 .taken)))
+
+shr-if3 : tie.Need-shr-if3
+shr-if3 c = search needs
 
 returns-2 : tie.Need-returns-2
-returns-2 c r = covers-of-zero r ∙ sym (none (decLe patternBits r))
-  where
-    none : Dec (patternBits ≤ r) → (ltb r patternBits && covers r (c .before .args .position)) ≡ false
-    none (yes h) = rw (le-ltb r patternBits h)
-    none (no h) = rw (covers-high maxSets r (c .before .args .position) (omega arith) (c .if1 .left)) (and-false (ltb r patternBits))
+unfolding covers
+returns-2 c b h =
+    let s = c .before .before .before in
+    covers-ones wordBits b ∙ lt-ltb b wordBits h
+    ∙ sym (covers-of-word (s .args .position) (s .args .j) b (c .before .before .if1 .left) h ∙ eq-eqb _ 1 (c .if3 .taken))
+
+returns-3 : tie.Need-returns-3
+unfolding covers
+returns-3 c b h =
+    let s = c .before .before .before in
+    covers-of-zero b ∙ sym (covers-of-word (s .args .position) (s .args .j) b (c .before .before .if1 .left) h ∙ ne-eqb _ 1 (c .if3 .left))
+
+returns-4 : tie.Need-returns-4
+returns-4 c b h =
+    let s = c .before .before in
+    covers-of-zero b ∙ sym (covers-high 8 (wordBits * s .args .j + b) (s .args .position) (omega (arith, s .pre)) (c .if2 .left))
 
 pub inside-spec : {M : Type 1} → statement M
-inside-spec = tie.close (tie.spec mul-result array-read-result returns returns-2)
+inside-spec =
+    tie.close (tie.spec mul-result array-read-result returns shr-if3 returns-2 returns-3 returns-4)

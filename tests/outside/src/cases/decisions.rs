@@ -18,7 +18,7 @@ pub fn small(tally: &mut Tally) {
     let mut long = 0;
     for round in 0..6_000 {
         // Most claims have few sets: more of them only take longer.
-        let sets = if round % 10 == 0 { random.below(7) } else { random.below(4) };
+        let sets = if round % 10 == 0 { random.below(9) } else { random.below(4) };
         let quantifiers = set_quantifiers(&mut random, sets);
         let words = joined_claim(&mut random, &quantifiers, 5);
         for size in 0..=5 {
@@ -34,6 +34,18 @@ pub fn small(tally: &mut Tally) {
     }
     let [yes, no, other] = totals;
     println!("  claims true: {yes}, false: {no}, other: {other}; of over 10 steps: {long}");
+}
+
+/// Claims about seven and eight sets at sizes 0 to 2, to their ends.
+pub fn many_sets(tally: &mut Tally) {
+    let mut random = Random::new(15);
+    for round in 0..300 {
+        let quantifiers = set_quantifiers(&mut random, 7 + round % 2);
+        let words = joined_claim(&mut random, &quantifiers, 5);
+        for size in 0..=2 {
+            around_steps(tally, &words, size, 40_000);
+        }
+    }
 }
 
 /// Compares under allowances at which the outcome turns.
@@ -68,7 +80,7 @@ pub fn large(tally: &mut Tally) {
     let mut random = Random::new(12);
     let sizes = [6, 10, 63, 100, 1_000, 2_047, 4_095, 4_096, 4_097, 1 << 20, u32::MAX];
     for _ in 0..6_000 {
-        let sets = random.below(7);
+        let sets = random.below(9);
         let quantifiers = set_quantifiers(&mut random, sets);
         let words = if random.one_in(2) {
             joined_claim(&mut random, &quantifiers, 6)

@@ -37,10 +37,11 @@ pub fn of_term(quantifiers: &[i32], put: impl FnOnce(&mut Draft) -> i32) -> Vec<
     draft.finished()
 }
 
-/// The claim with the largest emission: 1,024 nodes, 6 sets, each relation
-/// with all 64 regions on one side and none on the other.
-pub fn largest() -> Vec<i32> {
-    let mut draft = Draft::new(&[4, 3, 4, 3, 4, 3]);
+/// The claim with the largest emission for so many sets: 1,024 nodes, each
+/// relation with all regions on one side and none on the other.
+pub fn largest(sets: usize) -> Vec<i32> {
+    let quantifiers = [4, 3, 4, 3, 4, 3, 4, 3];
+    let mut draft = Draft::new(&quantifiers[..sets]);
     draft.put(3, 0, 0);
     draft.put(2, 0, 0);
     while draft.nodes() < 1024 {
@@ -53,7 +54,9 @@ pub fn run(tally: &mut Tally) {
     counts(tally);
     sets(tally);
     outputs(tally);
-    for words in [of_nodes(1023), of_nodes(1024), of_nodes(1025), largest()] {
+    for words in
+        [of_nodes(1023), of_nodes(1024), of_nodes(1025), largest(6), largest(7), largest(8)]
+    {
         calls::check(tally, &words);
         calls::reduce(tally, &words);
         for size in [0, 1, 4096, 4097] {
@@ -107,13 +110,15 @@ fn counts(tally: &mut Tally) {
     }
 }
 
-/// Six sets pass, a seventh is refused at its word, after any refusal 4.
+/// Eight sets pass, a ninth is refused at its word, after any refusal 4.
 fn sets(tally: &mut Tally) {
     accepted(tally, &of_quantifiers(&[3, 4, 3, 4, 3, 4]));
-    refused(tally, &of_quantifiers(&[3, 4, 3, 4, 3, 4, 3]), 5, 6 + 6);
-    refused(tally, &of_quantifiers(&[1, 3, 4, 2, 3, 4, 5, 3, 4, 6, 4, 3]), 5, 6 + 10);
-    refused(tally, &of_quantifiers(&[3, 4, 3, 4, 3, 4, 3, 0]), 4, 6 + 7);
-    refused(tally, &of_quantifiers(&[7, 4, 3, 4, 3, 4, 3, 3]), 4, 6);
+    accepted(tally, &of_quantifiers(&[3, 4, 3, 4, 3, 4, 3]));
+    accepted(tally, &of_quantifiers(&[3, 4, 3, 4, 3, 4, 3, 4]));
+    refused(tally, &of_quantifiers(&[3, 4, 3, 4, 3, 4, 3, 4, 3]), 5, 6 + 8);
+    refused(tally, &of_quantifiers(&[1, 3, 4, 2, 3, 4, 5, 3, 4, 6, 4, 3, 1, 3, 3]), 5, 6 + 13);
+    refused(tally, &of_quantifiers(&[3, 4, 3, 4, 3, 4, 3, 4, 3, 0]), 4, 6 + 9);
+    refused(tally, &of_quantifiers(&[7, 4, 3, 4, 3, 4, 3, 3, 3, 3]), 4, 6);
     accepted(tally, &of_quantifiers(&[3, 4, 3, 1, 3, 4, 3, 5]));
 }
 
@@ -128,10 +133,13 @@ fn outputs(tally: &mut Tally) {
         calls::reduce(tally, words);
     };
     needed(&ONE_ELEMENT, 33);
-    // 1,022 set relations of 127 nodes for 64 regions, 1 for no region, 2
-    // constants, 2 equals, an and: 2R + 5. Then the constraint part.
-    let nodes = 1022 * (127 + 1 + 2 + 2 + 1) + 6 * 63 + 3;
-    needed(&largest(), 3 * nodes + 126 + 4);
+    // 1,022 set relations of 2R - 1 nodes for R regions, 1 for no region, 2
+    // constants, 2 equals, an and: 2R + 5. Then the constraint part, with
+    // one more for each for-all, and 2R - 2 quantifiers.
+    for (sets, regions, for_alls) in [(6, 64, 3), (7, 128, 4), (8, 256, 4)] {
+        let nodes = 1022 * (2 * regions + 5) + 6 * (regions - 1) + for_alls;
+        needed(&largest(sets), 3 * nodes + 2 * regions - 2 + 4);
+    }
 }
 
 /// Sizes around 4,096 and far past it.

@@ -6,7 +6,7 @@ use outside::counting;
 use outside::emit;
 use outside::meaning::{self, Ranges};
 use outside::random::Random;
-use outside::region::patterns;
+use outside::region::{patterns, Pattern};
 use outside::rule::{self, Outcome};
 use outside::scribble::dress;
 use outside::table::{Claim, Node};
@@ -73,21 +73,21 @@ pub fn searches(tally: &mut Tally) {
 pub fn lengths(tally: &mut Tally) {
     let mut random = Random::new(34);
     for _ in 0..3_000 {
-        let (sets, others) = (random.below(7), random.below(3));
+        let (sets, others) = (random.below(9), random.below(3));
         let quantifiers = any_quantifiers(&mut random, sets, others);
         let nodes = 2 + random.below(40);
         let words = any_claim(&mut random, &quantifiers, nodes, Words::Extreme);
         let claim = Claim::read(&words);
         let patterns = patterns(&claim);
-        let sum = |p: u32| if p == 0 { 1 } else { 2 * p - 1 };
+        let sum = |p: &Pattern| 2 * p.regions().len().max(1) - 1;
         let run = |node: &Node| {
             let (a, b) = (node.a as usize, node.b as usize);
             match node.kind {
                 1..=6 => 0,
-                16 => sum(patterns[a].count_ones()),
+                16 => sum(&patterns[a]),
                 23 | 24 => {
-                    let there = sum((patterns[a] & !patterns[b]).count_ones()) + 2;
-                    let back = sum((patterns[b] & !patterns[a]).count_ones()) + 2;
+                    let there = sum(&patterns[a].without(&patterns[b])) + 2;
+                    let back = sum(&patterns[b].without(&patterns[a])) + 2;
                     if node.kind == 24 {
                         there
                     } else {
@@ -99,7 +99,7 @@ pub fn lengths(tally: &mut Tally) {
         };
         let for_alls = quantifiers.iter().filter(|&&word| word == 4).count();
         let constraints = 6 * ((1 << sets) - 1) + for_alls;
-        let expected = claim.nodes.iter().map(run).sum::<u32>() as usize + constraints;
+        let expected = claim.nodes.iter().map(run).sum::<usize>() + constraints;
         let found = emit::reduce(&words, usize::MAX).map(|emitted| Claim::read(&emitted));
         tally.compare(&Ok(expected), &found.map(|emitted| emitted.nodes.len()), || {
             format!("our emission's nodes, of words: {}", spaced(&words))

@@ -114,7 +114,7 @@ pub fn long_outputs(tally: &mut Tally, programs: &Programs) {
         tally.compare(&Ok(length), &emitted, || format!("our emission of {length} words"));
         reduce(tally, programs, spaced(&words).as_bytes());
     }
-    for words in [largest(), of_nodes(1024), of_nodes(1025)] {
+    for words in [largest(6), largest(8), of_nodes(1024), of_nodes(1025)] {
         reduce(tally, programs, spaced(&words).as_bytes());
         decide(tally, programs, &[b"1", b"70"], spaced(&words).as_bytes());
     }

@@ -97,7 +97,7 @@ pub fn run(tally: &mut Tally, programs: &Programs) {
     for length in LENT_WORDS - 3..=LENT_WORDS + 3 {
         smt(spaced(&emitting(length)).as_bytes());
     }
-    for words in [largest(), of_nodes(1024), of_nodes(1025), longest_lines()] {
+    for words in [largest(6), largest(8), of_nodes(1024), of_nodes(1025), longest_lines()] {
         smt(spaced(&words).as_bytes());
     }
 }

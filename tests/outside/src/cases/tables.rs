@@ -26,10 +26,11 @@ impl Seen {
     }
 }
 
-/// Any quantifiers of up to 6 sets, mostly few others.
+/// Any quantifiers of up to 8 sets, mostly few others.
 fn random_quantifiers(random: &mut Random) -> Vec<i32> {
-    let sets = random.below(7);
-    let others = if random.one_in(8) { random.below(27) } else { random.below(4) };
+    // Seven and eight sets are rare: their emissions are four times as long.
+    let sets = if random.one_in(20) { 7 + random.below(2) } else { random.below(7) };
+    let others = if random.one_in(8) { random.below(25) } else { random.below(4) };
     any_quantifiers(random, sets, others)
 }
 
@@ -61,7 +62,7 @@ pub fn damaged(tally: &mut Tally) {
         let mut words = match random.below(12) {
             0..=3 => random_table(&mut random),
             4..=10 => small_table(&mut random, 3),
-            _ => small_table(&mut random, 9),
+            _ => small_table(&mut random, 11),
         };
         for _ in 0..random.pick(&[1, 1, 1, 2, 2, 3, 4]) {
             damage(&mut random, &mut words);

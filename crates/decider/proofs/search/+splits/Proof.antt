@@ -2,13 +2,14 @@ use mathlib.Core.Path.{_≡_, sym, ap, subst, _∙_}
 use mathlib.Core.Logic.{⊎-elim}
 use mathlib.Core.Bool.{Bool}
 use mathlib.Core.List.{List}
-use Prim.Native.Nat.{ℕ, _+_, _-_, _≤_, _<_}
+use Prim.Native.Nat.{ℕ, _+_, _-_, _^_, _≤_, _<_}
 use native.Mathlib.Omega.{arith}
 use borrow.Author.Needs.{needs}
 use lib.IntN.{ℤ}
 use lib.ListN.{length, take, getD}
 use Rattle.checker.specs.Claim.{Claim}
 use Rattle.checker.specs.Words.{word, claimOf}
+use Rattle.checker.specs.Check.{maxSets}
 use Rattle.matrix.specs.Known.{Counts, Known, Kept}
 use Rattle.matrix.proofs.Known.{known-kept}
 use Rattle.decider.specs.Rule.{Ruling, rule, tries, split}
@@ -86,16 +87,16 @@ module _ (t : ℕ) (s : splits-lts.Start (told t) (splits-at t) splits.Post spli
   room : h + h ≤ length l
   room = omega (arith, placed .1, guided .roomy)
 
-  few : h < 64
+  few : h < 2 ^ maxSets
   few = omega (arith, placed .1, guided .few)
 
 -- in the loop: the run of all tries is the rule at h
 module _ (t : ℕ) (i : splits-lts.At-loop (told t) (splits-at t) splits.Post splits-Inv-loop splits-μ-loop) where
   abbrev s : splits-lts.Start (told t) (splits-at t) splits.Post splits-Inv-loop splits-μ-loop
-  s = i .before .before .before .before .before .before .before .before .before .before
+  s = i .before .before .before .before .before .before .before .before .before .before .before .before
 
   abbrev a : splits-lts.After-advance (told t) (splits-at t) splits.Post splits-Inv-loop splits-μ-loop
-  a = i .before .before .before
+  a = i .before .before .before .before
 
   abbrev f : ℕ → Ruling
   f = next (planOf (claim t s)) (R t s) (h t s) (l t s)
@@ -128,7 +129,7 @@ module _ (t : ℕ) (p : splits-lts.After-children (told t) (splits-at t) splits.
 -- after the regions without ports are passed over
 module _ (t : ℕ) (q : splits-lts.After-pass (told t) (splits-at t) splits.Post splits-Inv-loop splits-μ-loop) where
   abbrev p : splits-lts.After-children (told t) (splits-at t) splits.Post splits-Inv-loop splits-μ-loop
-  p = q .before .before
+  p = q .before .before .before .before
 
   abbrev e : splits-lts.At-loop (told t) (splits-at t) splits.Post splits-Inv-loop splits-μ-loop
   e = i t p
@@ -177,7 +178,7 @@ module _ (t : ℕ) (q : splits-lts.After-pass (told t) (splits-at t) splits.Post
 -- What either way to the reply gives: it is that to try k, and what stood before stands.
 module _ (t : ℕ) (j : splits-lts.Joined1 (told t) (splits-at t) splits.Post splits-Inv-loop splits-μ-loop) where
   abbrev q : splits-lts.After-pass (told t) (splits-at t) splits.Post splits-Inv-loop splits-μ-loop
-  q = j .before
+  q = j .before .before .before
 
   abbrev values : List ℤ
   values = a t (e t q) .advance .last .1 .1 .1 .1 .1 .1 .0
@@ -185,30 +186,30 @@ module _ (t : ℕ) (j : splits-lts.Joined1 (told t) (splits-at t) splits.Post sp
   made : j .if1 .x ≡ reply (f t (e t q) (e t q .loop .k)) (e t q .loop .rest)
   made =
       ⊎-elim
-      (λ w. w .9 ∙ w .6 .ensures .0 ∙ ap (λ r. reply r (e t q .loop .rest)) (sym (goes-on t q ∙ leaf (planOf (claim t (b t q))) (R t (b t q)) (below t q) (m t q) (w .0 .taken))))
-      (λ w. w .6 ∙ w .3 .ensures .0 ∙ ap (λ r. reply r (e t q .loop .rest)) (sym (goes-on t q)))
+      (λ w. w .7 ∙ w .3 .ensures .0 ∙ ap (λ r. reply r (e t q .loop .rest)) (sym (goes-on t q ∙ leaf (planOf (claim t (b t q))) (R t (b t q)) (below t q) (m t q) (w .0 .taken))))
+      (λ w. w .9 ∙ w .3 .ensures .0 ∙ ap (λ r. reply r (e t q .loop .rest)) (sym (goes-on t q)))
       (j .if1 .came)
 
   stands : take (h t (b t q) + h t (b t q)) (j .if1 .counts) ≡ take (h t (b t q) + h t (b t q)) (l t (b t q))
   stands =
       let n = h t (b t q) + h t (b t q) in
       let lower : n ≤ below t q + below t q = omega (arith, passed t q .from) in
-      ⊎-elim (λ w. ap (take n) (w .7) ∙ stand t q) (λ w. ap (take n) (w .4) ∙ shorter n (below t q + below t q) (w .3 .last .0) (m t q) (l t (b t q)) lower (w .3 .ensures .1 .0) (stand t q))
+      ⊎-elim (λ w. ap (take n) (w .5) ∙ stand t q) (λ w. ap (take n) (w .7) ∙ shorter n (below t q + below t q) (w .3 .last .0) (m t q) (l t (b t q)) lower (w .3 .ensures .1 .0) (stand t q))
       (j .if1 .came)
 
   counts-long : length (j .if1 .counts) ≡ length (l t (b t q))
-  counts-long = ⊎-elim (λ w. ap length (w .7) ∙ long t q) (λ w. ap length (w .4) ∙ w .3 .ensures .1 .1 .1 .0 ∙ long t q) (j .if1 .came)
+  counts-long = ⊎-elim (λ w. ap length (w .5) ∙ long t q) (λ w. ap length (w .7) ∙ w .3 .ensures .1 .1 .1 .0 ∙ long t q) (j .if1 .came)
 
   values-stand : Kept (b t q .args .order .now) (a t (e t q) .advance .result) values (j .if1 .values)
   values-stand k n =
       let at = getD (b t q .args .order .now) k 0 in
       let before = e t q .loop .inv .6 k n in
-      ⊎-elim (λ w. ap (λ xs. word xs at) (w .8) ∙ w .6 .ensures .1 k n ∙ before) (λ w. ap (λ xs. word xs at) (w .5) ∙ w .3 .ensures .1 .1 .0 k n ∙ before) (j .if1 .came)
+      ⊎-elim (λ w. ap (λ xs. word xs at) (w .6) ∙ w .3 .ensures .1 k n ∙ before) (λ w. ap (λ xs. word xs at) (w .8) ∙ w .3 .ensures .1 .1 .0 k n ∙ before) (j .if1 .came)
 
   values-long : length (j .if1 .values) ≡ length values
   values-long =
       let before = e t q .loop .inv .5 in
-      ⊎-elim (λ w. ap length (w .8) ∙ w .6 .kept .1 .1 .1 .1 .1 .1 .1 .1 .0 ∙ before) (λ w. ap length (w .5) ∙ w .3 .ensures .1 .1 .1 .1 ∙ before) (j .if1 .came)
+      ⊎-elim (λ w. ap length (w .6) ∙ w .3 .kept .1 .1 .1 .1 .1 .1 .1 .1 .0 ∙ before) (λ w. ap length (w .8) ∙ w .3 .ensures .1 .1 .1 .1 ∙ before) (j .if1 .came)
 
   back : Kept (b t q .args .order .now) (b t q .args .known) (b t q .args .values .now) (j .if1 .values)
   back k n = values-stand k (omega (arith, n, a t (e t q) .advance .ensures .0)) ∙ a t (e t q) .advance .ensures .1 .1 k n
@@ -218,20 +219,20 @@ module _ (t : ℕ) (j : splits-lts.Joined1 (told t) (splits-at t) splits.Post sp
 
 splits-advance-requires : (t : ℕ) → splits-lts.Need-advance-requires (told t) (splits-at t) splits.Post splits-Inv-loop splits-μ-loop
 splits-advance-requires t c κs =
-    let s = c .before .before .before .before .before .before in
+    let s = c .before .before .before .before .before .before .before in
     let due = guided t s .scheduled (h t s + h t s - R t s) (omega (arith, placed t s .1)) in (
       prepared-less (due .0) (prepared t s),
       ((placed t s .1, room t s, guided t s .long .1), ((guided t s .final, placed t s .2), (due .1, s .pre .1 .1 .1 .1 .1 .0 .1))),
     )
 
-splits-element-copy-out-some : (t : ℕ) → splits-lts.Need-element-copy-out-some (told t) (splits-at t) splits.Post splits-Inv-loop splits-μ-loop
-splits-element-copy-out-some t c = few t (c .before .before .before .before .before .before .before)
+splits-shared-slice-read-some : (t : ℕ) → splits-lts.Need-shared-slice-read-some (told t) (splits-at t) splits.Post splits-Inv-loop splits-μ-loop
+splits-shared-slice-read-some t c = let s = c .before .before .before .before .before .before .before .before .before .before in omega (arith, placed t s .1, guided t s .long .0)
 
 splits-mul-whole : (t : ℕ) → splits-lts.Need-mul-whole (told t) (splits-at t) splits.Post splits-Inv-loop splits-μ-loop
-splits-mul-whole t c = let small = few t (c .before .before .before .before .before .before .before .before) in record { fits = omega arith }
+splits-mul-whole t c = let small = few t (c .before .before .before .before .before .before .before .before .before .before) in record { fits = omega arith }
 
-splits-element-copy-out-whole : (t : ℕ) → splits-lts.Need-element-copy-out-whole (told t) (splits-at t) splits.Post splits-Inv-loop splits-μ-loop
-splits-element-copy-out-whole t c = omega (arith, few t (c .before .before .before .before .before .before .before .before))
+splits-slice-read-whole : (t : ℕ) → splits-lts.Need-slice-read-whole (told t) (splits-at t) splits.Post splits-Inv-loop splits-μ-loop
+splits-slice-read-whole t c = let s = c .before .before .before .before .before .before .before .before .before .before .before in omega (arith, placed t s .0, room t s)
 
 splits-loop-holds : (t : ℕ) → splits-lts.Need-loop-holds (told t) (splits-at t) splits.Post splits-Inv-loop splits-μ-loop
 splits-loop-holds t c = search needs
@@ -246,19 +247,19 @@ splits-children-requires t c κs =
     )
 
 splits-add-pass : (t : ℕ) → splits-lts.Need-add-pass (told t) (splits-at t) splits.Post splits-Inv-loop splits-μ-loop
-splits-add-pass t c = let small = few t (s t (c .before .before .before .before)) in record { fits = omega arith }
+splits-add-pass t c = let small = few t (s t (c .before .before .before .before .before .before)) in record { fits = omega arith }
 
 splits-pass-requires : (t : ℕ) → splits-lts.Need-pass-requires (told t) (splits-at t) splits.Post splits-Inv-loop splits-μ-loop
 splits-pass-requires t c κs =
-    let i = c .before .before .before .before in
+    let i = c .before .before .before .before .before .before in
     let s = s t i in
-    (omega arith, omega (arith, placed t s .1), omega (arith, guided t s .roomy, i .loop .inv .1, c .before .children .kept .0))
+    (omega arith, omega (arith, placed t s .1), omega (arith, guided t s .roomy, i .loop .inv .1, c .before .before .before .children .kept .0))
 
 splits-step-requires : (t : ℕ) → splits-lts.Need-step-requires (told t) (splits-at t) splits.Post splits-Inv-loop splits-μ-loop
 splits-step-requires t c κs =
-    let q = c .before .before .before .before .before .before in
+    let q = c .before .before .before .before .before in
     let b = b t q in
-    let same = c .before .before .before .before .before .if1 .taken in
+    let same = c .before .before .if1 .taken in
     let final = ap (λ n. finals (R t b) n (m t q)) same in
     let room : below t q + below t q ≤ length (m t q) = omega (arith, guided t b .roomy, long t q, same) in (
       prepared-kept (e t q .loop .inv .5 ∙ a t (e t q) .advance .kept .1 .1 .1 .1 .1 .1 .0) (prepared t b),
@@ -282,7 +283,7 @@ splits-step-requires t c κs =
 
 splits-splits-requires : (t : ℕ) → splits-lts.Need-splits-requires (told t) (splits-at t) splits.Post splits-Inv-loop splits-μ-loop
 splits-splits-requires t c κs =
-    let q = c .before .before .before in
+    let q = c .before .before .before .before .before in
     let b = b t q in
     let more : below t q < R t b = omega (arith, passed t q .upto, c .before .before .if1 .left) in (
       omega (arith, b .pre .0, passed t q .from),
@@ -300,6 +301,12 @@ splits-splits-requires t c κs =
 
 splits-ends-requires : (t : ℕ) → splits-lts.Need-ends-requires (told t) (splits-at t) splits.Post splits-Inv-loop splits-μ-loop
 splits-ends-requires t c κs = search needs
+
+splits-same-length : (t : ℕ) → splits-lts.Need-same-length (told t) (splits-at t) splits.Post splits-Inv-loop splits-μ-loop
+splits-same-length t c = counts-long t (c .before .before)
+
+splits-same-length-2 : (t : ℕ) → splits-lts.Need-same-length-2 (told t) (splits-at t) splits.Post splits-Inv-loop splits-μ-loop
+splits-same-length-2 t c = let j = c .before .before in values-long t j ∙ a t (e t (q t j)) .advance .kept .1 .1 .1 .1 .1 .1 .0
 
 splits-returns : (t : ℕ) → splits-lts.Need-returns (told t) (splits-at t) splits.Post splits-Inv-loop splits-μ-loop
 splits-returns t c =
@@ -332,6 +339,12 @@ splits-loop-again t c =
       values-stand t j,
     )
 
+splits-same-length-3 : (t : ℕ) → splits-lts.Need-same-length-3 (told t) (splits-at t) splits.Post splits-Inv-loop splits-μ-loop
+splits-same-length-3 t c = c .before .loop .inv .1
+
+splits-same-length-4 : (t : ℕ) → splits-lts.Need-same-length-4 (told t) (splits-at t) splits.Post splits-Inv-loop splits-μ-loop
+splits-same-length-4 t c = let i = c .before in i .loop .inv .5 ∙ a t i .advance .kept .1 .1 .1 .1 .1 .1 .0
+
 splits-returns-2 : (t : ℕ) → splits-lts.Need-returns-2 (told t) (splits-at t) splits.Post splits-Inv-loop splits-μ-loop
 splits-returns-2 t c =
     let i = c .before in
@@ -356,9 +369,9 @@ pub +splits-spec : {M : Type 1} → statement M
     splits-Inv-loop
     splits-μ-loop
     (splits-advance-requires t)
-    (splits-element-copy-out-some t)
+    (splits-shared-slice-read-some t)
     (splits-mul-whole t)
-    (splits-element-copy-out-whole t)
+    (splits-slice-read-whole t)
     (splits-loop-holds t)
     (splits-children-requires t)
     (splits-add-pass t)
@@ -366,8 +379,12 @@ pub +splits-spec : {M : Type 1} → statement M
     (splits-step-requires t)
     (splits-splits-requires t)
     (splits-ends-requires t)
+    (splits-same-length t)
+    (splits-same-length-2 t)
     (splits-returns t)
     (splits-add-k t)
     (splits-loop-less t)
     (splits-loop-again t)
+    (splits-same-length-3 t)
+    (splits-same-length-4 t)
     (splits-returns-2 t)

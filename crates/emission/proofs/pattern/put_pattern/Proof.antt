@@ -1,7 +1,7 @@
 use mathlib.Core.Path.{sym, _∙_}
 use native.Mathlib.Omega.{arith}
 use Rattle.emission.proofs.Ready.{known, few}
-use Rattle.emission.proofs.Sets.{some-sets, variable-child, level-at, union-children, inter-children, compl-child, last-set, set-variable, set-empty, set-whole, set-union, set-inter, set-compl}
+use Rattle.emission.proofs.Sets.{sets-room, some-sets, variable-child, level-at, union-children, inter-children, compl-child, last-set, set-variable, set-empty, set-whole, set-union, set-inter, set-compl}
 use borrow.Author.Needs.{needs}
 use Rattle.emission.proofs.pattern.put_pattern.Statement.{statement}
 use Rattle.emission.proofs.pattern.put_pattern.Tie as tie
@@ -53,7 +53,7 @@ put-variable-requires : tie.Need-put-variable-requires
 put-variable-requires c κs =
     let ready = c .before .before .before .before .before .before .before .before .before .pre .0 in
     let patterned = c .before .before .before .before .before .before .before .before .before .pre .1 in
-    (omega (arith, ready .here, patterned .long, known ready .nodes), known ready .few-sets)
+    (omega (arith, ready .here, patterned .long, known ready .nodes), sets-room ready patterned)
 
 put-empty-requires : tie.Need-put-empty-requires
 put-empty-requires c κs =
@@ -65,7 +65,7 @@ put-whole-requires : tie.Need-put-whole-requires
 put-whole-requires c κs =
     let ready = c .before .before .before .before .before .before .before .pre .0 in
     let patterned = c .before .before .before .before .before .before .before .pre .1 in
-    (omega (arith, ready .here, patterned .long, known ready .nodes), known ready .few-sets)
+    (omega (arith, ready .here, patterned .long, known ready .nodes), sets-room ready patterned)
 
 put-union-requires : tie.Need-put-union-requires
 put-union-requires c κs =
@@ -94,7 +94,7 @@ put-complement-requires c κs =
     let child = compl-child ready patterned (last-set ready patterned (c .before .before .before .before .word .ensures) (c .before .before .before .before .before .before .before .pre .2) (c .before .match .rest)) in (
       omega (arith, ready .here, patterned .long, known ready .nodes),
       omega (arith, c .before .before .before .word2 .ensures, child .entry),
-      known ready .few-sets,
+      sets-room ready patterned,
     )
 
 same-length : tie.Need-same-length

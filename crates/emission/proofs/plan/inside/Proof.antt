@@ -18,7 +18,7 @@ shl-t7 c = search needs
 add-t8 : tie.Need-add-t8
 add-t8 c =
     let a = c .before .before .args in
-    omega (arith, shifted (a .frame .level) (c .before .before .pre .1), pow-mono {j = 6} (c .before .before .pre .1))
+    omega (arith, shifted (a .frame .level) (c .before .before .pre .1), pow-mono {j = 8} (c .before .before .pre .1))
 
 -- src/plan.rt:32:20
 add-t9 : tie.Need-add-t9

@@ -7,9 +7,10 @@ use Rattle.checker.specs.Words.{claimOf}
 use Rattle.checker.specs.Sorts.{sets}
 use Rattle.checker.proofs.Accepted.{accepted-claim}
 use Rattle.matrix.specs.Entry.{Filled}
-use Rattle.matrix.specs.Arranged.{Reach, Ranked}
+use Rattle.matrix.specs.Arranged.{Ranked}
 use Rattle.matrix.specs.Known.{Scheduled}
 use Rattle.matrix.proofs.Placing.{placed-none, scheduled, root-placed, placed-few}
+use Rattle.region.specs.Pattern.{coversAt, End}
 use Rattle.matrix.proofs.order.arrange.Statement.{statement}
 use Rattle.matrix.proofs.order.arrange.Tie as tie
 use Rattle.matrix.proofs.order.arrange.Reads as reads
@@ -76,17 +77,17 @@ returns c =
     let ok = accepted-claim (s .args .words .now) (s .args .shape) (s .pre .0) in
     let marks = c .before .before .before .before .before .before .before .before .before .before .before .before .before .before .before .mark-needed in
     let reached = c .before .before .before .before .before .before .before .before .before .before .before .before .fill-reach in
-    let known : (i : ℕ) → i < length (claim .nodes) → Reach (s .args .patterns .now) i (getD (reached .last .1 .1 .0) i 0) = λ i h. reached .ensures i (omega (arith, counted s)) in
+    let known : (i : ℕ) → i < length (claim .nodes) → End (coversAt (s .args .patterns .now) i) (getD (reached .last .1 .1 .0) i 0) = λ i h. reached .ensures i (omega (arith, counted s)) in
     let ranked : Ranked claim (marks .last .1 .1 .0) (e .last .1 .1 .1 .1 .0) (reached .last .1 .1 .0) (e .last .1 .1 .1 .1 .1 .0) (e .result) (e .last .1 .1 .1 .1 .1 .1 .0) (2 ^ sets (claim .quantifiers)) =
     subst (λ k. Ranked claim (marks .last .1 .1 .0) (e .last .1 .1 .1 .1 .0) (reached .last .1 .1 .0) (e .last .1 .1 .1 .1 .1 .0) (e .result) (e .last .1 .1 .1 .1 .1 .1 .0) (2 ^ k)) (sets-are s) (e .ensures .1) in (
       (
         e .ensures .0 .ordered,
-        root-placed claim (s .args .patterns .now) (filled s) (ok .limited .few-sets) (marks .last .1 .1 .0) (e .last .1 .1 .1 .1 .0) (reached .last .1 .1 .0) (e .last .1 .1 .1 .1 .1 .0) (e .result) (e .last .1 .1 .1 .1 .1 .1 .0) known (e .ensures .0) ranked
+        root-placed claim (s .args .patterns .now) (filled s) (marks .last .1 .1 .0) (e .last .1 .1 .1 .1 .0) (reached .last .1 .1 .0) (e .last .1 .1 .1 .1 .1 .0) (e .result) (e .last .1 .1 .1 .1 .1 .1 .0) known (e .ensures .0) ranked
             (marks .ensures) (ok .sorted .1 .0),
-        omega (arith, counted s, placed-few claim (s .args .patterns .now) (filled s) (ok .limited .few-sets) (marks .last .1 .1 .0) (e .last .1 .1 .1 .1 .0) (reached .last .1 .1 .0) (e .last .1 .1 .1 .1 .1 .0) (e .result) (e .last .1 .1 .1 .1 .1 .1 .0) known (e .ensures .0) ranked),
+        omega (arith, counted s, placed-few claim (s .args .patterns .now) (filled s) (marks .last .1 .1 .0) (e .last .1 .1 .1 .1 .0) (reached .last .1 .1 .0) (e .last .1 .1 .1 .1 .1 .0) (e .result) (e .last .1 .1 .1 .1 .1 .1 .0) known (e .ensures .0) ranked),
       ),
       subst (λ k. Scheduled (s .args .patterns .now) (2 ^ k) (e .last .1 .1 .1 .1 .1 .0) (e .result) (e .last .1 .1 .1 .1 .1 .1 .0)) (sym (sets-are s))
-          (scheduled claim (s .args .patterns .now) (filled s) (ok .limited .few-sets) (marks .last .1 .1 .0) (e .last .1 .1 .1 .1 .0) (reached .last .1 .1 .0) (e .last .1 .1 .1 .1 .1 .0) (e .result) (e .last .1 .1 .1 .1 .1 .1 .0) known (e .ensures .0) ranked),
+          (scheduled claim (s .args .patterns .now) (filled s) (marks .last .1 .1 .0) (e .last .1 .1 .1 .1 .0) (reached .last .1 .1 .0) (e .last .1 .1 .1 .1 .1 .0) (e .result) (e .last .1 .1 .1 .1 .1 .1 .0) known (e .ensures .0) ranked),
     )
 
 pub arrange-spec : {M : Type 1} → statement M

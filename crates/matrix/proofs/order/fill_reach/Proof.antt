@@ -8,12 +8,12 @@ use borrow.Author.Tests.{eqb-true, eqb-false}
 use lib.Dec.{eqb}
 use lib.ListN.{length, getD, set, length-set}
 use lib.Seq.{getD-set-same, getD-set-other}
-use Rattle.matrix.specs.Arranged.{Reach}
+use Rattle.region.specs.Pattern.{coversAt, End}
 use Rattle.matrix.proofs.order.fill_reach.Statement.{statement}
 use Rattle.matrix.proofs.order.fill_reach.Tie as tie
 
 abbrev Inv-loop : tie.InvT-loop
-Inv-loop patterns n reach₀ i₀ reach i = (i ≤ n) × (length reach ≡ length reach₀) × ((j : ℕ) → j < i → Reach patterns j (getD reach j 0))
+Inv-loop patterns n reach₀ i₀ reach i = (i ≤ n) × (length reach ≡ length reach₀) × ((j : ℕ) → j < i → End (coversAt patterns j) (getD reach j 0))
 
 abbrev μ-loop : tie.MeasureT-loop
 μ-loop patterns n reach₀ i₀ reach i = n - i
@@ -21,8 +21,8 @@ abbrev μ-loop : tie.MeasureT-loop
 loop-holds : tie.Need-loop-holds Inv-loop μ-loop
 loop-holds c = (zero-le, refl, λ j h. absurd (omega arith))
 
-reach-of-requires : tie.Need-reach-of-requires Inv-loop μ-loop
-reach-of-requires c κs = omega (arith, c .loop-test .taken, c .before .before .before .before .pre .0)
+end-requires : tie.Need-end-requires Inv-loop μ-loop
+end-requires c κs = omega (arith, c .loop-test .taken, c .before .before .before .before .pre .0)
 
 mul-reach : tie.Need-mul-reach Inv-loop μ-loop
 mul-reach c = search needs
@@ -43,11 +43,11 @@ loop-again c =
     let inside : l .i < length (l .reach) = omega (arith, c .before .loop-test .taken, s .pre .1, l .inv .1) in (
       omega (arith, c .before .loop-test .taken),
       length-set (l .reach) (l .i) _ ∙ l .inv .1,
-      λ j h. at (s .args .patterns .now) (l .reach) (l .i) (c .reach-of .result) inside (l .inv .2) (c .reach-of .ensures) j h (eqb j (l .i)) refl,
+      λ j h. at (s .args .patterns .now) (l .reach) (l .i) (c .end .result) inside (l .inv .2) (c .end .ensures .0) j h (eqb j (l .i)) refl,
     )
   where
-    at : (patterns reach : List ℕ) (i e : ℕ) → i < length reach → ((j : ℕ) → j < i → Reach patterns j (getD reach j 0)) → Reach patterns i e
-        → (j : ℕ) → j < i + 1 → (b : Bool) → eqb j i ≡ b → Reach patterns j (getD (set reach i e) j 0)
+    at : (patterns reach : List ℕ) (i e : ℕ) → i < length reach → ((j : ℕ) → j < i → End (coversAt patterns j) (getD reach j 0)) → End (coversAt patterns i) e
+        → (j : ℕ) → j < i + 1 → (b : Bool) → eqb j i ≡ b → End (coversAt patterns j) (getD (set reach i e) j 0)
     at patterns reach i e inside f new j h true z =
         let y : j ≡ i = eqb-true j i z in
         rw (y, getD-set-same reach i e 0 inside) new
@@ -68,7 +68,7 @@ fill-reach-spec =
     Inv-loop
     μ-loop
     loop-holds
-    reach-of-requires
+    end-requires
     mul-reach
     slice-write-reach
     add-i

@@ -5,6 +5,8 @@ use native.Mathlib.Omega.{arith}
 use borrow.Author.Needs.{needs}
 use Rattle.checker.specs.Words.{claimOf}
 use Rattle.matrix.specs.Entry.{Filled, Beyond}
+use Rattle.checker.proofs.Claims.{sound}
+use Rattle.region.proofs.Pattern.{roomy-same}
 use Rattle.matrix.proofs.Filling.{beyond-trans}
 use Rattle.matrix.proofs.patterns.prepare.Statement.{statement}
 use Rattle.matrix.proofs.patterns.prepare.Tie as tie
@@ -16,13 +18,16 @@ abbrev μ-loop : tie.MeasureT-loop
 μ-loop words shape patterns₀ nodes i₀ patterns i = nodes - i
 
 loop-holds : tie.Need-loop-holds Inv-loop μ-loop
-loop-holds c = (zero-le, record { long = zero-le; entry = λ w i h. absurd (omega arith) }, record { long = refl; kept = λ i h r. refl })
+loop-holds c =
+    let s = c .before in
+    let sets = sound (s .args .words .now) _ (s .pre .0) .sets in
+    (zero-le, record { long = zero-le; room = rw sets at (s .pre .1 .room); entry = λ w i h. absurd (omega arith) }, record { long = refl; kept = λ i h r. refl })
 
 put-entry-requires : tie.Need-put-entry-requires Inv-loop μ-loop
 put-entry-requires c κs =
     let l = c .before .before .loop in
     let s = c .before .before .before .before in
-    (s .pre .0, ((c .before .loop-test .taken, omega (arith, c .before .loop-test .taken, s .pre .1, l .inv .2 .long)), l .inv .1))
+    (s .pre .0, ((c .before .loop-test .taken, roomy-same (l .inv .2 .long) (s .pre .1)), l .inv .1))
 
 add-i : tie.Need-add-i Inv-loop μ-loop
 add-i c = search needs

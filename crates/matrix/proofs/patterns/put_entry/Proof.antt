@@ -2,7 +2,7 @@
 use mathlib.Core.Path.{_≡_, sym, ap, ap₂, subst, _∙_}
 use mathlib.Core.Bool.{Bool, false, not, xor, _&&_, _||_}
 use mathlib.Core.List.{List}
-use Prim.Native.Nat.{ℕ, _+_, _*_, _^_, _≤_, _<_}
+use Prim.Native.Nat.{ℕ, _+_, _*_, _^_, _<_}
 use native.Mathlib.Omega.{arith}
 use borrow.Author.Needs.{needs}
 use lib.Dec.{ltb}
@@ -14,11 +14,10 @@ use Rattle.checker.specs.Claim.{Node, Claim, unknown}
 use Rattle.checker.specs.Kinds.{number, nodeOf}
 use Rattle.checker.specs.Words.{word, wordAt, claimOf}
 use Rattle.checker.specs.Sorts.{Is, Fits, sets}
-use Rattle.checker.specs.Check.{maxSets}
 use Rattle.checker.specs.Meaning.{Set, Value, World, setAt}
 use Rattle.checker.proofs.Fitting.{fits-at}
 use Rattle.checker.proofs.Accepted.{accepted-claim}
-use Rattle.region.specs.Pattern.{covers, coversAt, Put}
+use Rattle.region.specs.Pattern.{covers, entries, coversAt, Put}
 use Rattle.matrix.specs.Final.{finalValues}
 use Rattle.matrix.specs.Entry.{entryOf, nodeValues, Filled, Beyond}
 use Rattle.matrix.proofs.Rows.{by-kind}
@@ -99,9 +98,6 @@ module _ (c : lts.After-word3 told reads.Pre reads.Post) where
   inside : i < length (claim .nodes)
   inside = omega (arith, ap (λ x. x .nodes) (accepted-claim ws (s .args .shape) (s .pre .0) .shape), s .pre .1 .0 .0)
 
-  few : s .args .shape .sets ≤ maxSets
-  few = let ok = accepted-claim ws (s .args .shape) (s .pre .0) in omega (arith, ap (λ x. x .sets) (ok .shape), ok .limited .few-sets)
-
   -- the number of regions, as the code has it
   regions-are : (r : ℕ) → ltb r (2 ^ s .args .shape .sets) ≡ there r
   regions-are r = ap (λ m. ltb r (2 ^ m)) (ap (λ x. x .sets) (accepted-claim ws (s .args .shape) (s .pre .0) .shape))
@@ -121,9 +117,12 @@ module _ (c : lts.After-word3 told reads.Pre reads.Post) where
   fits : (k : ℕ) → c .before .before .word .result ≡ k → Fits (claim .quantifiers) done (nodeOf (pos k) a b)
   fits k e = subst (Fits (claim .quantifiers) done) (made k e) (fits-at (claim .quantifiers) (claim .nodes) (accepted-claim ws (s .args .shape) (s .pre .0) .sorted .0) i inside)
 
+  entry : i < entries (s .args .patterns .now)
+  entry = omega (arith, s .pre .1 .0 .0, s .pre .1 .0 .1 .long)
+
   -- a set's number is that of an earlier node
-  below : {x v : ℕ} → x ≡ v → Is ASet done v → x < length (s .args .patterns .now)
-  below e (l, t) = omega (arith, length-take-le i (claim .nodes) (omega (arith, inside)), s .pre .1 .0 .1)
+  below : {x v : ℕ} → x ≡ v → Is ASet done v → x < entries (s .args .patterns .now)
+  below e (l, t) = omega (arith, length-take-le i (claim .nodes) (omega (arith, inside)), entry)
 
   covered-a : Is ASet done (number a) → (w : World) (r : ℕ) → coversAt (s .args .patterns .now) (c .before .word2 .result) r ≡ (there r && setAt (vs w) (number a) r)
   covered-a h w r = ap (λ x. coversAt (s .args .patterns .now) x r) read-a ∙ child-covers claim i inside (s .args .patterns .now) (s .pre .1 .1) w (number a) h r
@@ -136,9 +135,9 @@ module _ (c : lts.After-word3 told reads.Pre reads.Post) where
       → ((w : World) (r : ℕ) → wanted r ≡ (there r && entryOf (finalValues (claim .quantifiers)) (vs w) (nodeOf (pos k) a b) r))
       → Filled claim (i + 1) after × Beyond (i + 1) (s .args .patterns .now) after
   stored k e wanted after put is = (
-    filled-next claim i inside (s .args .patterns .now) (s .pre .1 .1) wanted after (s .pre .1 .0 .1) put
+    filled-next claim i inside (s .args .patterns .now) (s .pre .1 .1) wanted after entry put
         (λ w r. is w r ∙ ap (λ n. there r && entryOf (finalValues (claim .quantifiers)) (vs w) n r) (sym (made k e))),
-    beyond-next claim i inside (s .args .patterns .now) (s .pre .1 .1) wanted after (s .pre .1 .0 .1) put,
+    beyond-next claim i inside (s .args .patterns .now) (s .pre .1 .1) wanted after entry put,
   )
 
 position-requires : tie.Need-position-requires
@@ -146,37 +145,37 @@ unfolding nodeOf number
 position-requires c κs = let d = c .before .before in (s d .pre .0, omega (arith, read-a d, fits d 1 (c .before .match .keys1) .0, ap (λ x. x .quantifiers) (accepted-claim (ws d) (s d .args .shape) (s d .pre .0) .shape)))
 
 put-variable-requires : tie.Need-put-variable-requires
-put-variable-requires c κs = let d = c .before .before .before in (s d .pre .1 .0 .1, few d)
+put-variable-requires c κs = let d = c .before .before .before in (entry d, s d .pre .1 .0 .1 .room)
 
 put-whole-requires : tie.Need-put-whole-requires
-put-whole-requires c κs = let d = c .before .before in (s d .pre .1 .0 .1, few d)
+put-whole-requires c κs = let d = c .before .before in (entry d, s d .pre .1 .0 .1 .room)
 
 put-union-requires : tie.Need-put-union-requires
 unfolding nodeOf number
-put-union-requires c κs = let d = c .before .before in let f = fits d 4 (c .before .match .keys3) in (s d .pre .1 .0 .1, below d (read-a d) (f .0), below d (read-b d) (f .1))
+put-union-requires c κs = let d = c .before .before in let f = fits d 4 (c .before .match .keys3) in (entry d, below d (read-a d) (f .0), below d (read-b d) (f .1))
 
 put-intersection-requires : tie.Need-put-intersection-requires
 unfolding nodeOf number
-put-intersection-requires c κs = let d = c .before .before in let f = fits d 5 (c .before .match .keys4) in (s d .pre .1 .0 .1, below d (read-a d) (f .0), below d (read-b d) (f .1))
+put-intersection-requires c κs = let d = c .before .before in let f = fits d 5 (c .before .match .keys4) in (entry d, below d (read-a d) (f .0), below d (read-b d) (f .1))
 
 put-exclusive-requires : tie.Need-put-exclusive-requires
 unfolding nodeOf number
-put-exclusive-requires c κs = let d = c .before .before in let f = fits d 23 (c .before .match .keys7) in (s d .pre .1 .0 .1, below d (read-a d) (f .0), below d (read-b d) (f .1))
+put-exclusive-requires c κs = let d = c .before .before in let f = fits d 23 (c .before .match .keys7) in (entry d, below d (read-a d) (f .0), below d (read-b d) (f .1))
 
 put-difference-requires : tie.Need-put-difference-requires
 unfolding nodeOf number
-put-difference-requires c κs = let d = c .before .before in let f = fits d 24 (c .before .match .keys8) in (s d .pre .1 .0 .1, below d (read-a d) (f .0), below d (read-b d) (f .1))
+put-difference-requires c κs = let d = c .before .before in let f = fits d 24 (c .before .match .keys8) in (entry d, below d (read-a d) (f .0), below d (read-b d) (f .1))
 
 put-complement-requires : tie.Need-put-complement-requires
 unfolding nodeOf number
-put-complement-requires c κs = let d = c .before .before in (s d .pre .1 .0 .1, below d (read-a d) (fits d 6 (c .before .match .keys5)), few d)
+put-complement-requires c κs = let d = c .before .before in (entry d, below d (read-a d) (fits d 6 (c .before .match .keys5)), s d .pre .1 .0 .1 .room)
 
 put-union-requires-2 : tie.Need-put-union-requires-2
 unfolding nodeOf number
-put-union-requires-2 c κs = let d = c .before .before in let h = below d (read-a d) (fits d 16 (c .before .match .keys6)) in (s d .pre .1 .0 .1, h, h)
+put-union-requires-2 c κs = let d = c .before .before in let h = below d (read-a d) (fits d 16 (c .before .match .keys6)) in (entry d, h, h)
 
 put-empty-requires : tie.Need-put-empty-requires
-put-empty-requires c κs = let d = c .before .before in s d .pre .1 .0 .1
+put-empty-requires c κs = let d = c .before .before in entry d
 
 same-length : tie.Need-same-length
 same-length c = search needs
@@ -264,8 +263,8 @@ returns-9 c = let d = c .before .before .before .before .before in
     let k = subst Bare (d .before .before .word .ensures) (record { set-kinds = (r .0 .0 .0 .0 .0 .0 .0 .1, r .0 .0 .0 .0 .0 .0 .1, r .0 .0 .0 .0 .0 .1, r .0 .0 .0 .0 .1, r .0 .0 .0 .1); others = (r .0 .0 .1, r .0 .1, r .1) }) in
     let is : (w : World) (r : ℕ) → false ≡ (there d r && entryOf (finalValues (claim d .quantifiers)) (vs d w) (getD (claim d .nodes) (i d) unknown) r) =
     λ w r. cut-none (there d r) ∙ ap (λ t. there d r && t) (no-entry (finalValues (claim d .quantifiers)) (vs d w) (word (ws d) (3 * i d)) (a d) (b d) k r ∙ ap (λ n. entryOf (finalValues (claim d .quantifiers)) (vs d w) n r) (sym (node-at (ws d) (i d) (inside d)))) in (
-      filled-next (claim d) (i d) (inside d) (s d .args .patterns .now) (s d .pre .1 .1) _ (c .before .before .put-empty .last .0) (s d .pre .1 .0 .1) (c .before .before .put-empty .ensures) is,
-      beyond-next (claim d) (i d) (inside d) (s d .args .patterns .now) (s d .pre .1 .1) _ (c .before .before .put-empty .last .0) (s d .pre .1 .0 .1) (c .before .before .put-empty .ensures),
+      filled-next (claim d) (i d) (inside d) (s d .args .patterns .now) (s d .pre .1 .1) _ (c .before .before .put-empty .last .0) (entry d) (c .before .before .put-empty .ensures) is,
+      beyond-next (claim d) (i d) (inside d) (s d .args .patterns .now) (s d .pre .1 .1) _ (c .before .before .put-empty .last .0) (entry d) (c .before .before .put-empty .ensures),
     )
 
 pub put-entry-spec : {M : Type 1} → statement M

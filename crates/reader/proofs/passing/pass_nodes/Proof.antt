@@ -5,6 +5,8 @@ use native.Mathlib.Nat.{lt-of-le-of-lt}
 use native.Mathlib.Omega.{arith}
 use lib.Dec.{lit<}
 use lib.ListN.{length, drop}
+use Rattle.checker.specs.declared.Dialect.the-variants.{Emitted}
+use Rattle.checker.specs.Dialect.{mostNodes}
 use Rattle.checker.specs.Words.{nodeAt, claimOf}
 use Rattle.sentence.specs.Lines.{nodeLine, nodeLines}
 use Rattle.solver.proofs.Steps.{node-step, node-end}
@@ -25,7 +27,7 @@ loop-holds c = refl
 pass-node-requires : tie.Need-pass-node-requires Inv-loop μ-loop
 pass-node-requires c κs =
     let laid = c .before .before .before .pre in
-    (omega (arith, laid .long), lt-of-le-of-lt {m = 136576} (omega (arith, laid .few-nodes)) (lit< tt))
+    (omega (arith, laid .long), lt-of-le-of-lt {m = mostNodes Emitted} (omega (arith, laid .few-nodes)) (lit< tt))
 
 add-i : tie.Need-add-i Inv-loop μ-loop
 add-i c = omega arith

@@ -6,6 +6,8 @@ use native.Mathlib.Nat.{lt-of-le-of-lt}
 use borrow.Author.Needs.{needs}
 use lib.Dec.{lit<}
 use lib.ListN.{length, drop}
+use Rattle.checker.specs.declared.Dialect.the-variants.{Emitted}
+use Rattle.checker.specs.Dialect.{mostQuantifiers}
 use Rattle.checker.specs.Words.{claimOf}
 use Rattle.sentence.specs.Lines.{quantifierLines}
 use Rattle.solver.proofs.Steps.{quantifier-step, quantifier-end}
@@ -34,7 +36,7 @@ word-requires : tie.Need-word-requires Inv-loop μ-loop
 word-requires c κs = search needs
 
 pass-quantifier-requires : tie.Need-pass-quantifier-requires Inv-loop μ-loop
-pass-quantifier-requires c κs = lt-of-le-of-lt {m = 152} (omega (arith, c .before .before .before .before .before .pre .few-quantifiers)) (lit< tt)
+pass-quantifier-requires c κs = lt-of-le-of-lt {m = mostQuantifiers Emitted} (omega (arith, c .before .before .before .before .before .pre .few-quantifiers)) (lit< tt)
 
 add-i : tie.Need-add-i Inv-loop μ-loop
 add-i c = omega arith

@@ -8,6 +8,8 @@ use lib.Dec.{lit<}
 use lib.ListN.{length, drop, length-append}
 use mir.Syntax.{w32}
 use mir.Facts.{toZ-ofZ}
+use Rattle.checker.specs.declared.Dialect.the-variants.{Emitted}
+use Rattle.checker.specs.Dialect.{mostNodes}
 use Rattle.checker.specs.Words.{word, nodeAt, claimOf}
 use Rattle.sentence.specs.Lines.{nodeLine, nodeLines}
 use Rattle.solver.proofs.Steps.{node-is, node-step, node-end}
@@ -59,7 +61,7 @@ shared-slice-copy-out-line-length-2 c = omega (arith, c .before .before .before 
 
 line-length-requires : tie.Need-line-length-requires Inv-loop μ-loop
 line-length-requires c κs =
-    lt-of-le-of-lt {m = 136576} (omega (arith, c .before .before .before .before .before .pre .few-nodes, c .before .before .before .loop-test .taken)) (lit< tt)
+    lt-of-le-of-lt {m = mostNodes Emitted} (omega (arith, c .before .before .before .before .before .pre .few-nodes, c .before .before .before .loop-test .taken)) (lit< tt)
 
 add-total : tie.Need-add-total Inv-loop μ-loop
 add-total c =

@@ -7,6 +7,8 @@ use borrow.Author.Needs.{needs}
 use lib.Dec.{lit<}
 use lib.ListN.{length, drop, length-append}
 use lib.IntN.{pos}
+use Rattle.checker.specs.declared.Dialect.the-variants.{Emitted}
+use Rattle.checker.specs.Dialect.{mostQuantifiers}
 use Rattle.checker.specs.Kinds.{quantifierOf}
 use Rattle.checker.specs.Words.{claimOf}
 use Rattle.sentence.specs.Lines.{quantifierLine, quantifierLines}
@@ -37,7 +39,7 @@ word-requires c κs = search needs
 
 quantifier-length-requires : tie.Need-quantifier-length-requires Inv-loop μ-loop
 quantifier-length-requires c κs =
-    lt-of-le-of-lt {m = 152} (omega (arith, c .before .before .before .before .pre .few-quantifiers, c .before .loop-test .taken)) (lit< tt)
+    lt-of-le-of-lt {m = mostQuantifiers Emitted} (omega (arith, c .before .before .before .before .pre .few-quantifiers, c .before .loop-test .taken)) (lit< tt)
 
 add-total : tie.Need-add-total Inv-loop μ-loop
 add-total c =
