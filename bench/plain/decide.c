@@ -2,11 +2,11 @@
 #include <string.h>
 #include "table.h"
 
-enum { REGIONS = 64 };
+enum { REGIONS = 256 };
 
 typedef struct {
     const int32_t *words;
-    uint64_t patterns[MAX_NODES];
+    uint64_t patterns[WORDS][MAX_NODES];
     int32_t values[MAX_NODES];
     int order[MAX_NODES];
     int ready[REGIONS];
@@ -17,14 +17,10 @@ typedef struct {
     uint64_t left, taken;
 } Search;
 
-static uint32_t ports_in(uint64_t left, const uint32_t *counts, int n) {
+static uint32_t ports_in(const Search *s, int i, const uint32_t *counts, int n) {
     uint32_t sum = 0;
-    while (left) {
-        int r = __builtin_ctzll(left);
-        if (n <= r) return sum;
-        sum += counts[r];
-        left &= left - 1;
-    }
+    for (int j = 0; 64 * j < n; j++)
+        for (uint64_t left = s->patterns[j][i]; left; left &= left - 1) sum += counts[64 * j + __builtin_ctzll(left)];
     return sum;
 }
 
@@ -40,11 +36,11 @@ static void evaluate(Search *s, const uint32_t *counts, int n, int known, int to
         case 13: v[i] = v[a] + v[b]; break;
         case 14: v[i] = v[a] - v[b]; break;
         case 15: v[i] = a * v[b]; break;
-        case 16: v[i] = (int32_t)ports_in(s->patterns[i], counts, n); break;
+        case 16: v[i] = (int32_t)ports_in(s, i, counts, n); break;
         case 20: v[i] = v[a] == v[b]; break;
         case 21: v[i] = v[a] < v[b]; break;
         case 22: v[i] = a != 0 && v[b] % a == 0; break;
-        case 23: case 24: v[i] = ports_in(s->patterns[i], counts, n) == 0; break;
+        case 23: case 24: v[i] = ports_in(s, i, counts, n) == 0; break;
         case 25: v[i] = v[a] & v[b]; break;
         case 26: v[i] = v[a] | v[b]; break;
         case 27: v[i] = !v[a]; break;
@@ -93,7 +89,11 @@ static void arrange(Search *s, const Table *t) {
     }
     for (int i = 0; i < t->nodes; i++) {
         const int32_t *w = t->words + 3 * i;
-        settled[i] = s->patterns[i] ? 64 - __builtin_clzll(s->patterns[i]) : 0;
+        settled[i] = 0;
+        for (int j = 0; j < words_of(t); j++) {
+            uint64_t word = s->patterns[j][i];
+            if (word) settled[i] = 64 * (j + 1) - __builtin_clzll(word);
+        }
         for (int f = 0; f < 2; f++)
             if (uses(w[0], f) && settled[w[1 + f]] > settled[i]) settled[i] = settled[w[1 + f]];
     }
@@ -138,7 +138,7 @@ void plain_c_decide(const int32_t *words, size_t len, uint32_t size, uint64_t al
         memset(s.some + s.regions, words[3 * t.nodes + j] == 3, s.regions);
         s.regions *= 2;
     }
-    for (int i = 0; i < t.nodes; i++) s.patterns[i] = pattern_of(&t, s.patterns, i);
+    for (int i = 0; i < t.nodes; i++) put_pattern(&t, s.patterns, i);
     arrange(&s, &t);
     s.counts[1] = size;
     s.left = allowance;

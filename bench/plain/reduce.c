@@ -18,33 +18,41 @@ static void put_region(Writer *w, int level, int first, int r) {
     else put(w, 10, first + r, 0);
 }
 
-static void put_card(Writer *w, uint64_t p, int level, int first) {
-    if (!p) { put(w, 11, 0, 0); return; }
-    put_region(w, level, first, __builtin_ctzll(p));
-    for (p &= p - 1; p; p &= p - 1) {
-        put_region(w, level, first, __builtin_ctzll(p));
-        put(w, 13, w->at - 2, w->at - 1);
-    }
-}
-
-static void put_empty(Writer *w, uint64_t p, int level, int first) {
-    put_card(w, p, level, first);
-    put(w, 11, 0, 0);
-    put(w, 20, w->at - 2, w->at - 1);
-}
-
-static int card_nodes(uint64_t p) { return p ? 2 * __builtin_popcountll(p) - 1 : 1; }
-
 static int is_set(int32_t quantifier) { return quantifier == 3 || quantifier == 4; }
 
 typedef struct {
     Table t;
     const int32_t *prefix;
-    uint64_t pats[MAX_NODES];
+    uint64_t pats[WORDS][MAX_NODES];
     int last[MAX_NODES];           /* the emitted node that stands for each */
     int number[MAX_QUANTIFIERS];   /* the first emitted quantifier of each */
     int quantifiers, level, first; /* those emitted, and the final regions' */
 } Reduction;
+
+/* Word j of what node a's pattern covers and node b's does not; b is -1 where all that a's covers is meant. */
+static uint64_t word(const Reduction *r, int j, int a, int b) { return r->pats[j][a] & ~(b < 0 ? 0 : r->pats[j][b]); }
+
+static void put_card(Writer *w, const Reduction *r, int a, int b) {
+    int start = w->at;
+    for (int j = 0; j < words_of(&r->t); j++)
+        for (uint64_t p = word(r, j, a, b); p; p &= p - 1) {
+            put_region(w, r->level, r->first, 64 * j + __builtin_ctzll(p));
+            if (start + 1 < w->at) put(w, 13, w->at - 2, w->at - 1);
+        }
+    if (start == w->at) put(w, 11, 0, 0);
+}
+
+static void put_empty(Writer *w, const Reduction *r, int a, int b) {
+    put_card(w, r, a, b);
+    put(w, 11, 0, 0);
+    put(w, 20, w->at - 2, w->at - 1);
+}
+
+static int card_nodes(const Reduction *r, int a, int b) {
+    int regions = 0;
+    for (int j = 0; j < words_of(&r->t); j++) regions += __builtin_popcountll(word(r, j, a, b));
+    return regions ? 2 * regions - 1 : 1;
+}
 
 static void number_quantifiers(Reduction *r) {
     r->quantifiers = r->level = r->first = 0;
@@ -63,27 +71,25 @@ static size_t words_needed(Reduction *r) {
     for (int j = 0; j < t->quantifiers; j++) nodes += r->prefix[j] == 4;
     for (int i = 0; i < t->nodes; i++) {
         const int32_t *w = t->words + 3 * i;
-        uint64_t *p = r->pats;
-        p[i] = pattern_of(t, p, i);
-        if (w[0] == 16) nodes += card_nodes(p[i]);
-        else if (w[0] == 24) nodes += card_nodes(p[i]) + 2;
-        else if (w[0] == 23) nodes += card_nodes(p[w[1]] & ~p[w[2]]) + card_nodes(p[w[2]] & ~p[w[1]]) + 5;
+        put_pattern(t, r->pats, i);
+        if (w[0] == 16) nodes += card_nodes(r, i, -1);
+        else if (w[0] == 24) nodes += card_nodes(r, i, -1) + 2;
+        else if (w[0] == 23) nodes += card_nodes(r, w[1], w[2]) + card_nodes(r, w[2], w[1]) + 5;
         else if (w[0] > 6) nodes++;
     }
     return 3 * nodes + r->quantifiers + 4;
 }
 
 static void put_nodes(Reduction *r, Writer *o) {
-    const uint64_t *p = r->pats;
     for (int i = 0; i < r->t.nodes; i++) {
         const int32_t *w = r->t.words + 3 * i;
         if (w[0] <= 6) continue;
-        if (w[0] == 16) put_card(o, p[i], r->level, r->first);
-        else if (w[0] == 24) put_empty(o, p[i], r->level, r->first);
+        if (w[0] == 16) put_card(o, r, i, -1);
+        else if (w[0] == 24) put_empty(o, r, i, -1);
         else if (w[0] == 23) {
-            put_empty(o, p[w[1]] & ~p[w[2]], r->level, r->first);
+            put_empty(o, r, w[1], w[2]);
             int one = o->at - 1;
-            put_empty(o, p[w[2]] & ~p[w[1]], r->level, r->first);
+            put_empty(o, r, w[2], w[1]);
             put(o, 25, one, o->at - 1);
         } else if (w[0] == 10) put(o, 10, r->number[w[1]], 0);
         else put(o, w[0], uses(w[0], 0) ? r->last[w[1]] : w[1], uses(w[0], 1) ? r->last[w[2]] : w[2]);

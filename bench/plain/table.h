@@ -2,7 +2,7 @@
 #include <stddef.h>
 #include <stdint.h>
 
-enum { MAX_NODES = 1024, MAX_QUANTIFIERS = 32, MAX_SETS = 6 };
+enum { MAX_NODES = 1024, MAX_QUANTIFIERS = 32, MAX_SETS = 8, WORDS = 4 };
 
 /* What the fields a and b of each kind of node must be. */
 static const int8_t NEED[28][2] = {
@@ -57,14 +57,18 @@ static inline int check(const int32_t *words, size_t len, Table *t) {
     return t->root >= 0 && t->root < n && sort_of(words[3 * t->root]) == 3;
 }
 
-static uint64_t whole(int sets) { return ~0ull >> (64 - (1 << sets)); }
+/* Word j of all regions, and of those inside the set at a position. */
+static uint64_t whole(int sets, int j) {
+    int left = (1 << sets) - 64 * j;
+    return left <= 0 ? 0 : left < 64 ? ~0ull >> (64 - left) : ~0ull;
+}
 
-static uint64_t variable(int position, int sets) {
+static uint64_t variable(int position, int j) {
     static const uint64_t bits[6] = {
         0xAAAAAAAAAAAAAAAA, 0xCCCCCCCCCCCCCCCC, 0xF0F0F0F0F0F0F0F0,
         0xFF00FF00FF00FF00, 0xFFFF0000FFFF0000, 0xFFFFFFFF00000000,
     };
-    return bits[position] & whole(sets);
+    return position < 6 ? bits[position] : -(uint64_t)(j >> (position - 6) & 1);
 }
 
 static int inside(const Table *t, int q) {
@@ -76,19 +80,27 @@ static int inside(const Table *t, int q) {
     return n;
 }
 
-static inline uint64_t pattern_of(const Table *t, const uint64_t *pats, int i) {
+/* The words of a pattern. */
+static inline int words_of(const Table *t) { return t->sets <= 6 ? 1 : 1 << (t->sets - 6); }
+
+/* Word j of node i's pattern, from the words j of the nodes before. */
+static inline uint64_t word_of(const Table *t, const uint64_t *pats, int i, int j) {
     const int32_t *w = t->words + 3 * i;
     switch (w[0]) {
-    case 1: return variable(inside(t, w[1]), t->sets);
-    case 3: return whole(t->sets);
+    case 1: return variable(inside(t, w[1]), j) & whole(t->sets, j);
+    case 3: return whole(t->sets, j);
     case 4: return pats[w[1]] | pats[w[2]];
     case 5: return pats[w[1]] & pats[w[2]];
-    case 6: return whole(t->sets) & ~pats[w[1]];
+    case 6: return whole(t->sets, j) & ~pats[w[1]];
     case 16: return pats[w[1]];
     case 23: return pats[w[1]] ^ pats[w[2]];
     case 24: return pats[w[1]] & ~pats[w[2]];
     default: return 0;
     }
+}
+
+static inline void put_pattern(const Table *t, uint64_t pats[WORDS][MAX_NODES], int i) {
+    for (int j = 0; j < words_of(t); j++) pats[j][i] = word_of(t, pats[j], i, j);
 }
 
 /* Whether a field of such a node is a term or a formula. */

@@ -17,6 +17,8 @@ const ROUNDS: usize = 25;
 // About how many nodes are worked out for one measurement.
 const WORK: u64 = 2_000_000;
 
+const LARGEST_EMISSION: usize = 1_593_376;
+
 #[repr(C)]
 struct Time {
     seconds: i64,
@@ -144,6 +146,10 @@ fn measure_decider() {
         claim(6, 90, Mixed, Alternating, 4),
         claim(6, 1000, Counting, Exists, 3),
         claim(6, 1000, SetsOnly, ForAll, 3),
+        claim(7, 68, SetsOnly, ForAll, 3),
+        claim(7, 90, Mixed, Alternating, 3),
+        claim(8, 40, Counting, Exists, 2),
+        claim(8, 1000, Mixed, Exists, 2),
     ];
     least(claims.iter().map(decide_row));
 }
@@ -155,7 +161,7 @@ fn measure_growth() {
         decide_row(&claim(2, 40, Mixed, Exists, size));
     }
     heading("decider, as sets are added", "N", "steps");
-    for sets in 1..=6 {
+    for sets in 1..=8 {
         decide_row(&claim(sets, 40, Mixed, Exists, 2));
     }
     heading("decider, as nodes are added", "N", "steps");
@@ -167,7 +173,7 @@ fn measure_growth() {
 fn measure_reducer() {
     use {Make::*, Prefix::*};
     heading("reducer", "", "words");
-    let mut out = [vec![0; 500_000], vec![0; 500_000], vec![0; 500_000]];
+    let mut out = [(); 3].map(|_| vec![0; LARGEST_EMISSION]);
     let claims = [
         five_nodes(0),
         claim(2, 40, Mixed, ForAll, 0),
@@ -175,6 +181,8 @@ fn measure_reducer() {
         claim(3, 1000, Mixed, Exists, 0),
         claim(6, 40, SetsOnly, Exists, 0),
         claim(6, 1000, Mixed, ForAll, 0),
+        claim(7, 40, Mixed, Alternating, 0),
+        claim(8, 1000, Mixed, ForAll, 0),
     ];
     least(claims.iter().map(|c| reduce_row(c, &mut out)));
 }

@@ -1,14 +1,16 @@
 // The decider in plain Rust: the same splits in the same order, regions without ports passed over, values of settled nodes kept.
-use super::table::{uses, Table, MAX_NODES};
+use super::table::{uses, Patterns, Table, MAX_NODES};
+
+const REGIONS: usize = 256;
 
 struct Search<'a> {
     words: &'a [i32],
-    patterns: [u64; MAX_NODES],
+    patterns: Patterns,
     values: [i32; MAX_NODES],
     order: [usize; MAX_NODES],
-    ready: [usize; 64],
-    some: [bool; 64],
-    counts: [u32; 128],
+    ready: [usize; REGIONS],
+    some: [bool; REGIONS],
+    counts: [u32; 2 * REGIONS],
     rows: usize,
     root: usize,
     regions: usize,
@@ -22,20 +24,19 @@ enum Found {
     Spent,
 }
 
-fn ports_in(mut left: u64, counts: &[u32]) -> u32 {
-    let mut sum = 0;
-    while left != 0 {
-        let r = left.trailing_zeros() as usize;
-        if counts.len() <= r {
-            return sum;
-        }
-        sum += counts[r];
-        left &= left - 1;
-    }
-    sum
-}
-
 impl Search<'_> {
+    fn ports_in(&self, i: usize, counts: &[u32]) -> u32 {
+        let mut sum = 0;
+        for (j, counts) in counts.chunks(64).enumerate() {
+            let mut left = self.patterns[j][i];
+            while left != 0 {
+                sum += counts[left.trailing_zeros() as usize];
+                left &= left - 1;
+            }
+        }
+        sum
+    }
+
     fn evaluate(&mut self, from: usize, to_count: usize, known: usize, to: usize) {
         for k in known..to {
             let i = self.order[k];
@@ -48,11 +49,11 @@ impl Search<'_> {
                 13 => v[x] + v[y],
                 14 => v[x] - v[y],
                 15 => a * v[y],
-                16 => ports_in(self.patterns[i], &self.counts[from..to_count]) as i32,
+                16 => self.ports_in(i, &self.counts[from..to_count]) as i32,
                 20 => (v[x] == v[y]) as i32,
                 21 => (v[x] < v[y]) as i32,
                 22 => (a != 0 && v[y] % a == 0) as i32,
-                23 | 24 => (ports_in(self.patterns[i], &self.counts[from..to_count]) == 0) as i32,
+                23 | 24 => (self.ports_in(i, &self.counts[from..to_count]) == 0) as i32,
                 25 => v[x] & v[y],
                 26 => v[x] | v[y],
                 27 => (v[x] == 0) as i32,
@@ -94,6 +95,12 @@ impl Search<'_> {
         Found::Truth(!some)
     }
 
+    // One past the last region of a node's pattern.
+    fn reach(&self, i: usize) -> usize {
+        let last = (0..self.patterns.len()).rev().find(|&j| self.patterns[j][i] != 0);
+        last.map_or(0, |j| 64 * (j + 1) - self.patterns[j][i].leading_zeros() as usize)
+    }
+
     // The nodes that the root needs, those that few regions settle first.
     fn arrange(&mut self, t: &Table) {
         let mut needed = [false; MAX_NODES];
@@ -106,14 +113,14 @@ impl Search<'_> {
         }
         for i in 0..t.nodes {
             let (k, a, b) = t.node(i);
-            settled[i] = 64 - self.patterns[i].leading_zeros() as usize;
+            settled[i] = self.reach(i);
             for (f, c) in [a, b].into_iter().enumerate() {
                 if uses(k, f) {
                     settled[i] = settled[i].max(settled[c as usize]);
                 }
             }
         }
-        let mut upto = [0; 65];
+        let mut upto = [0; REGIONS + 1];
         self.rows = 0;
         for end in 0..=self.regions {
             for i in 0..t.nodes {
@@ -168,12 +175,12 @@ pub fn decide(words: &[i32], size: u32, allowance: u64) -> (u64, u64) {
     };
     let mut s = Search {
         words,
-        patterns: [0; MAX_NODES],
+        patterns: t.no_patterns(),
         values: [0; MAX_NODES],
         order: [0; MAX_NODES],
-        ready: [0; 64],
-        some: [false; 64],
-        counts: [0; 128],
+        ready: [0; REGIONS],
+        some: [false; REGIONS],
+        counts: [0; 2 * REGIONS],
         rows: 0,
         root: t.root,
         regions: 1,
@@ -188,7 +195,7 @@ pub fn decide(words: &[i32], size: u32, allowance: u64) -> (u64, u64) {
         s.regions *= 2;
     }
     for i in 0..t.nodes {
-        s.patterns[i] = t.pattern(&s.patterns, i);
+        t.put_pattern(&mut s.patterns, i);
     }
     s.arrange(&t);
     s.counts[1] = size;

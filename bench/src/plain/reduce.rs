@@ -1,5 +1,5 @@
 // The reducer in plain Rust: the same emission, counted and then written.
-use super::table::{binds_set, uses, Table, MAX_NODES};
+use super::table::{binds_set, uses, Patterns, Table, MAX_NODES};
 
 struct Writer<'a> {
     out: &'a mut [i32],
@@ -24,33 +24,41 @@ impl Writer<'_> {
         }
     }
 
-    fn card(&mut self, mut p: u64, level: usize, first: usize) {
-        if p == 0 {
-            return self.put(11, 0, 0);
+    // The sum of the regions' sizes.
+    fn card(&mut self, regions: impl Iterator<Item = usize>, level: usize, first: usize) {
+        let start = self.at;
+        for r in regions {
+            self.region(level, first, r);
+            if start + 1 < self.at {
+                self.put(13, self.back(2), self.back(1));
+            }
         }
-        self.region(level, first, p.trailing_zeros() as usize);
-        p &= p - 1;
-        while p != 0 {
-            self.region(level, first, p.trailing_zeros() as usize);
-            self.put(13, self.back(2), self.back(1));
-            p &= p - 1;
+        if start == self.at {
+            self.put(11, 0, 0);
         }
     }
 
-    fn empty(&mut self, p: u64, level: usize, first: usize) {
-        self.card(p, level, first);
+    fn empty(&mut self, regions: impl Iterator<Item = usize>, level: usize, first: usize) {
+        self.card(regions, level, first);
         self.put(11, 0, 0);
         self.put(20, self.back(2), self.back(1));
     }
 }
 
-fn card_nodes(p: u64) -> usize {
-    (2 * p.count_ones() as usize).saturating_sub(1).max(1)
+// The bits of a word, from the lowest up.
+fn bits(mut word: u64) -> impl Iterator<Item = usize> {
+    std::iter::from_fn(move || {
+        let bit = word.trailing_zeros() as usize;
+        (word != 0).then(|| {
+            word &= word - 1;
+            bit
+        })
+    })
 }
 
 struct Reduction<'a> {
     t: Table<'a>,
-    pats: [u64; MAX_NODES],
+    patterns: Patterns,
     // The emitted node that stands for each.
     last: [usize; MAX_NODES],
     // The first emitted quantifier of each.
@@ -62,6 +70,20 @@ struct Reduction<'a> {
 }
 
 impl Reduction<'_> {
+    // The words of what node a's pattern covers and node b's, if one is given, does not.
+    fn words(&self, a: usize, b: Option<usize>) -> impl Iterator<Item = u64> + '_ {
+        self.patterns.iter().map(move |words| words[a] & !b.map_or(0, |b| words[b]))
+    }
+
+    fn regions(&self, a: usize, b: Option<usize>) -> impl Iterator<Item = usize> + '_ {
+        self.words(a, b).enumerate().flat_map(|(j, word)| bits(word).map(move |bit| 64 * j + bit))
+    }
+
+    fn card_nodes(&self, a: usize, b: Option<usize>) -> usize {
+        let regions: u32 = self.words(a, b).map(u64::count_ones).sum();
+        (2 * regions as usize).saturating_sub(1).max(1)
+    }
+
     fn number_quantifiers(&mut self) {
         for j in 0..self.t.quantifiers {
             self.number[j] = self.quantifiers;
@@ -81,15 +103,13 @@ impl Reduction<'_> {
         let mut nodes = 6 * ((1 << t.sets) - 1) + alls;
         for i in 0..t.nodes {
             let (k, a, b) = t.node(i);
-            self.pats[i] = t.pattern(&self.pats, i);
+            let (a, b) = (a as usize, b as usize);
+            t.put_pattern(&mut self.patterns, i);
             nodes += match k {
                 1..=6 => 0,
-                16 => card_nodes(self.pats[i]),
-                24 => card_nodes(self.pats[i]) + 2,
-                23 => {
-                    let (p, q) = (self.pats[a as usize], self.pats[b as usize]);
-                    card_nodes(p & !q) + card_nodes(q & !p) + 5
-                }
+                16 => self.card_nodes(i, None),
+                24 => self.card_nodes(i, None) + 2,
+                23 => self.card_nodes(a, Some(b)) + self.card_nodes(b, Some(a)) + 5,
                 _ => 1,
             };
         }
@@ -102,13 +122,13 @@ impl Reduction<'_> {
             let (k, a, b) = self.t.node(i);
             match k {
                 1..=6 => continue,
-                16 => w.card(self.pats[i], level, first),
-                24 => w.empty(self.pats[i], level, first),
+                16 => w.card(self.regions(i, None), level, first),
+                24 => w.empty(self.regions(i, None), level, first),
                 23 => {
-                    let (p, q) = (self.pats[a as usize], self.pats[b as usize]);
-                    w.empty(p & !q, level, first);
+                    let (a, b) = (a as usize, b as usize);
+                    w.empty(self.regions(a, Some(b)), level, first);
                     let one = w.back(1);
-                    w.empty(q & !p, level, first);
+                    w.empty(self.regions(b, Some(a)), level, first);
                     w.put(25, one, w.back(1));
                 }
                 10 => w.put(10, self.number[a as usize] as i32, 0),
@@ -167,7 +187,8 @@ impl Reduction<'_> {
 // How many words were written; none, if the table is refused or does not fit.
 pub fn reduce(words: &[i32], out: &mut [i32]) -> Option<usize> {
     let t = Table::check(words)?;
-    let mut r = Reduction { t, pats: [0; MAX_NODES], last: [0; MAX_NODES], number: [0; 32], quantifiers: 0, level: 0, first: 0 };
+    let patterns = t.no_patterns();
+    let mut r = Reduction { t, patterns, last: [0; MAX_NODES], number: [0; 32], quantifiers: 0, level: 0, first: 0 };
     r.number_quantifiers();
     let needed = r.words_needed();
     if out.len() < needed {

@@ -2,6 +2,9 @@
 
 pub const MAX_NODES: usize = 1024;
 
+// Of each word of a pattern, those of all nodes.
+pub type Patterns = Vec<[u64; MAX_NODES]>;
+
 // What the fields a and b of each kind of node must be.
 #[rustfmt::skip]
 const NEED: [[u8; 2]; 28] = [
@@ -65,7 +68,7 @@ impl<'a> Table<'a> {
             }
             t.sets += binds_set(t.quantifier(j)) as usize;
         }
-        if t.sets > 6 {
+        if t.sets > 8 {
             return None;
         }
         for i in 0..t.nodes {
@@ -82,28 +85,49 @@ impl<'a> Table<'a> {
         (q + 1..self.quantifiers).filter(|&j| binds_set(self.quantifier(j))).count()
     }
 
-    pub fn pattern(&self, pats: &[u64], i: usize) -> u64 {
+    // The words of a pattern.
+    pub fn pattern_words(&self) -> usize {
+        1 << self.sets.saturating_sub(6)
+    }
+
+    pub fn no_patterns(&self) -> Patterns {
+        vec![[0; MAX_NODES]; self.pattern_words()]
+    }
+
+    pub fn put_pattern(&self, patterns: &mut Patterns, i: usize) {
+        for (j, words) in patterns.iter_mut().enumerate() {
+            words[i] = self.word(words, i, j);
+        }
+    }
+
+    // Word j of node i's pattern, from the words j of the nodes before.
+    fn word(&self, before: &[u64], i: usize, j: usize) -> u64 {
         let (k, a, b) = self.node(i);
         let (a, b) = (a as usize, b as usize);
         match k {
-            1 => variable(self.inside(a), self.sets),
-            3 => whole(self.sets),
-            4 => pats[a] | pats[b],
-            5 => pats[a] & pats[b],
-            6 => whole(self.sets) & !pats[a],
-            16 => pats[a],
-            23 => pats[a] ^ pats[b],
-            24 => pats[a] & !pats[b],
+            1 => variable(self.inside(a), j) & whole(self.sets, j),
+            3 => whole(self.sets, j),
+            4 => before[a] | before[b],
+            5 => before[a] & before[b],
+            6 => whole(self.sets, j) & !before[a],
+            16 => before[a],
+            23 => before[a] ^ before[b],
+            24 => before[a] & !before[b],
             _ => 0,
         }
     }
 }
 
-fn whole(sets: usize) -> u64 {
-    u64::MAX >> (64 - (1 << sets))
+// Word j of all regions, and of those inside the set at a position.
+fn whole(sets: usize, j: usize) -> u64 {
+    match (1usize << sets).saturating_sub(64 * j) {
+        0 => 0,
+        left @ 1..64 => u64::MAX >> (64 - left),
+        _ => u64::MAX,
+    }
 }
 
-fn variable(position: usize, sets: usize) -> u64 {
+fn variable(position: usize, j: usize) -> u64 {
     const BITS: [u64; 6] = [
         0xAAAA_AAAA_AAAA_AAAA,
         0xCCCC_CCCC_CCCC_CCCC,
@@ -112,7 +136,10 @@ fn variable(position: usize, sets: usize) -> u64 {
         0xFFFF_0000_FFFF_0000,
         0xFFFF_FFFF_0000_0000,
     ];
-    BITS[position] & whole(sets)
+    match position {
+        0..6 => BITS[position],
+        _ => ((j >> (position - 6) & 1) as u64).wrapping_neg(),
+    }
 }
 
 // Whether a field of such a node is a term or a formula.
