@@ -19,8 +19,8 @@
  *   1       L < 4, or the last word is not 2005                                             0
  *   2       node count not from 1 to 1,024, else quantifier count not from 0 to 32          L - 3, L - 2
  *   3       L is not 3 * nodes + quantifiers + 4                                            0
- *   4       a quantifier word not from 1 to 8                                               the first such word
- *   5       a ninth quantifier over sets (kinds 3, 4, 7 and 8)                              its word
+ *   4       a quantifier word not from 1 to 6                                               the first such word
+ *   5       a ninth set quantifier                                                          its word
  *   6       a node not as its kind asks                                                     the first word of the first such node
  *   7       the root is no node's number, or no formula                                     L - 4
  *   12      zuccarvento_reduce: an emitted node or quantifier number over 2,147,483,647     0
@@ -54,7 +54,7 @@ enum zuccarvento_outcome {
 void zuccarvento_check(const int32_t *words, size_t words_len, uint64_t *row, size_t row_len);
 
 /* The counting claim that the words' claim becomes. Emitted: the first row[3] words of `out` are its words, and the rest of `out` is as it
- * was. Refused: all of `out` is as it was. Refusals 1 to 7, then 12, then 8. No emission has more than 1,594,954 words. */
+ * was. Refused: all of `out` is as it was. Refusals 1 to 7, then 12, then 8. No emission has more than 1,593,376 words. */
 void zuccarvento_reduce(const int32_t *words, size_t words_len, int32_t *out, size_t out_len, uint64_t *row, size_t row_len);
 
 /* Whether the claim is true over `size` elements, in at most `allowance` evaluations of its matrix. True and false: row[3] is the

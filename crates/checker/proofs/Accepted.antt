@@ -14,7 +14,7 @@ use Rattle.checker.specs.declared.Dialect.TheVariants.{SetClaims}
 use Rattle.checker.specs.declared.Shape.{Shape}
 use Rattle.checker.specs.declared.Sort.TheVariants.{AFormula}
 use Rattle.checker.specs.declared.Checked.TheVariants.{Accepted}
-use Rattle.checker.specs.Claim.{Node, unknown, Quantifier, intQ, set_q, countQ, Claim}
+use Rattle.checker.specs.Claim.{Node, unknown, Quantifier, intQ, setQ, countQ, Claim}
 use Rattle.checker.specs.Kinds.{number, sort_of, range_of, over_sets}
 use Rattle.checker.specs.Words.{word, word_at, nodes_in, quantifiers_in, claim_of, fields_of, node_words, nodes_words, quantifier_word, trailer, words_of}
 use Rattle.checker.specs.Sorts.{sort, is_set_q, WellSorted, sets}
@@ -125,10 +125,8 @@ module _ (d : Dialect) (c : Claim) where
   unfolding range_of number
   word_range (intQ true) = refl
   word_range (intQ false) = refl
-  word_range (set_q false true) = refl
-  word_range (set_q true true) = refl
-  word_range (set_q false false) = refl
-  word_range (set_q true false) = refl
+  word_range (setQ true) = refl
+  word_range (setQ false) = refl
   word_range (countQ true) = refl
   word_range (countQ false) = refl
 

@@ -8,7 +8,7 @@ use native.Mathlib.Omega.{arith}
 use lib.ListN.{length}
 use Rattle.checker.specs.declared.Dialect.TheVariants.{Emitted}
 use Rattle.checker.specs.declared.Checked.TheVariants.{Accepted}
-use Rattle.checker.specs.Claim.{Quantifier, intQ, set_q, countQ, Claim}
+use Rattle.checker.specs.Claim.{Quantifier, intQ, setQ, countQ, Claim}
 use Rattle.checker.specs.Kinds.{number, range_of}
 use Rattle.checker.specs.Words.{words_of}
 use Rattle.checker.specs.Sorts.{WellSorted, sets}
@@ -21,10 +21,8 @@ pub no_sets : (qs : List Quantifier) → QuantifiersTaken Emitted qs → sets qs
 unfolding sets range_of number
 no_sets [] t = refl
 no_sets (intQ some ∷ qs) (e, es) = no_sets qs es
-no_sets (set_q false true ∷ qs) (e, es) = absurd (false≢true e)
-no_sets (set_q true true ∷ qs) (e, es) = absurd (false≢true e)
-no_sets (set_q false false ∷ qs) (e, es) = absurd (false≢true e)
-no_sets (set_q true false ∷ qs) (e, es) = absurd (false≢true e)
+no_sets (setQ true ∷ qs) (e, es) = absurd (false≢true e)
+no_sets (setQ false ∷ qs) (e, es) = absurd (false≢true e)
 no_sets (countQ some ∷ qs) (e, es) = no_sets qs es
 
 pub without_sets : (qs : List Quantifier) → sets qs ≡ 0 → QuantifiersTaken Emitted qs
@@ -32,7 +30,7 @@ unfolding sets range_of number
 without_sets [] e = tt
 without_sets (intQ true ∷ qs) e = (refl, without_sets qs e)
 without_sets (intQ false ∷ qs) e = (refl, without_sets qs e)
-without_sets (set_q one some ∷ qs) e = absurd (omega arith)
+without_sets (setQ some ∷ qs) e = absurd (omega arith)
 without_sets (countQ true ∷ qs) e = (refl, without_sets qs e)
 without_sets (countQ false ∷ qs) e = (refl, without_sets qs e)
 

@@ -50,8 +50,8 @@ examples =
     ∷ example (pos 0 ∷ pos 1 ∷ negsuc 0 ∷ pos 2005 ∷ []) (gives 2 2)
     ∷ example (under 33) (gives 2 41)
     ∷ example (numbers (2 ∷ 0 ∷ 0 ∷ 0 ∷ 2 ∷ 0 ∷ 2005 ∷ [])) (gives 3 0)
-    ∷ example (numbers (12 ∷ 0 ∷ 0 ∷ 3 ∷ 9 ∷ 0 ∷ 1 ∷ 2 ∷ 2005 ∷ [])) (gives 4 4)
-    ∷ example (numbers (12 ∷ 0 ∷ 0 ∷ 3 ∷ 7 ∷ 4 ∷ 1 ∷ 3 ∷ 8 ∷ 3 ∷ 8 ∷ 3 ∷ 4 ∷ 0 ∷ 1 ∷ 10 ∷ 2005 ∷ [])) (gives 5 12)
+    ∷ example (numbers (12 ∷ 0 ∷ 0 ∷ 3 ∷ 7 ∷ 0 ∷ 1 ∷ 2 ∷ 2005 ∷ [])) (gives 4 4)
+    ∷ example (numbers (12 ∷ 0 ∷ 0 ∷ 3 ∷ 3 ∷ 4 ∷ 1 ∷ 3 ∷ 4 ∷ 3 ∷ 4 ∷ 3 ∷ 4 ∷ 0 ∷ 1 ∷ 10 ∷ 2005 ∷ [])) (gives 5 12)
     ∷ example (numbers (12 ∷ 0 ∷ 0 ∷ 20 ∷ 0 ∷ 1 ∷ 1 ∷ 2 ∷ 0 ∷ 2005 ∷ [])) (gives 6 3)
     ∷ example (numbers (12 ∷ 0 ∷ 0 ∷ 0 ∷ 1 ∷ 0 ∷ 2005 ∷ [])) (gives 7 3)
     ∷ []

@@ -6,7 +6,7 @@ use Prim.Native.Nat.{ℕ, zero, suc, ◌+◌, ◌≤◌, ◌<◌}
 use native.Mathlib.Omega.{arith}
 use lib.ListN.{length, get_or, take}
 use lib.Seq.{take-suc, take-length}
-use Rattle.checker.specs.Claim.{Node, set_var, empty, whole, union, inter, compl, num_var, const, maxc, sum, diff, multiple, card, equal, less, divided, setEqual, subset, conj, disj, neg, unknown, Quantifier, intQ, set_q, countQ}
+use Rattle.checker.specs.Claim.{Node, set_var, empty, whole, union, inter, compl, num_var, const, maxc, sum, diff, multiple, card, equal, less, divided, setEqual, subset, conj, disj, neg, unknown, Quantifier, intQ, setQ, countQ}
 use Rattle.checker.specs.Kinds.{sort_of}
 use Rattle.checker.specs.Words.{fields_of}
 use Rattle.checker.specs.Sorts.{sort, is_set_q, Fits, AllFit, sets}
@@ -55,10 +55,10 @@ fits_at qs ns f i h = fits_after qs [] ns f i h
 sets-snoc : (qs : List Quantifier) (q : Quantifier) → sets (qs ++ q ∷ []) ≡ sets qs + cond (is_set_q q) 1 0
 unfolding sets
 sets-snoc [] (intQ some) = refl
-sets-snoc [] (set_q one some) = refl
+sets-snoc [] (setQ some) = refl
 sets-snoc [] (countQ some) = refl
 sets-snoc (intQ some ∷ qs) q = sets-snoc qs q
-sets-snoc (set_q one some ∷ qs) q = omega (arith, sets-snoc qs q)
+sets-snoc (setQ some ∷ qs) q = omega (arith, sets-snoc qs q)
 sets-snoc (countQ some ∷ qs) q = sets-snoc qs q
 
 -- a test that tells set quantifiers counts the sets

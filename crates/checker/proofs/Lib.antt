@@ -15,6 +15,5 @@ pub mod Reading
 pub mod Accepted
 pub mod Claims
 pub mod SetLimit
-pub mod WithoutPorts
 pub mod Emitted
 pub mod Examples

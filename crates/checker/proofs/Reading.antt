@@ -1,6 +1,6 @@
 -- Good words read as a well-sorted claim whose words they are, and whose kinds are those that the dialect takes. Assumes nothing.
 use mathlib.Core.Path.{◌≡◌, refl, sym, ◌∙◌, ap, ap₂, subst}
-use mathlib.Core.Bool.{true, false≢true}
+use mathlib.Core.Bool.{true, false, false≢true}
 use mathlib.Core.List.{List, [], ◌∷◌, ◌++◌, map}
 use Prim.Native.Nat.{ℕ, zero, suc, ◌+◌, ◌*◌, ◌-◌, ◌≤◌, ◌<◌}
 use native.Mathlib.Nat.{add-zero, zero-add, suc-add, add-suc}
@@ -40,9 +40,7 @@ range_is (pos (suc (suc (suc zero)))) h = refl
 range_is (pos (suc (suc (suc (suc zero))))) h = refl
 range_is (pos (suc (suc (suc (suc (suc zero)))))) h = refl
 range_is (pos (suc (suc (suc (suc (suc (suc zero))))))) h = refl
-range_is (pos (suc (suc (suc (suc (suc (suc (suc zero)))))))) h = refl
-range_is (pos (suc (suc (suc (suc (suc (suc (suc (suc zero))))))))) h = refl
-range_is (pos (suc (suc (suc (suc (suc (suc (suc (suc (suc k)))))))))) h = absurd (false≢true h)
+range_is (pos (suc (suc (suc (suc (suc (suc (suc k)))))))) h = absurd (false≢true h)
 
 quantifier_back : (z : ℤ) → is_known (range_of (number z)) ≡ true → quantifier_word (quantifier_of z) ≡ z
 unfolding range_of number quantifier_of
@@ -54,9 +52,7 @@ quantifier_back (pos (suc (suc (suc zero)))) h = refl
 quantifier_back (pos (suc (suc (suc (suc zero))))) h = refl
 quantifier_back (pos (suc (suc (suc (suc (suc zero)))))) h = refl
 quantifier_back (pos (suc (suc (suc (suc (suc (suc zero))))))) h = refl
-quantifier_back (pos (suc (suc (suc (suc (suc (suc (suc zero)))))))) h = refl
-quantifier_back (pos (suc (suc (suc (suc (suc (suc (suc (suc zero))))))))) h = refl
-quantifier_back (pos (suc (suc (suc (suc (suc (suc (suc (suc (suc k)))))))))) h = absurd (false≢true h)
+quantifier_back (pos (suc (suc (suc (suc (suc (suc (suc k)))))))) h = absurd (false≢true h)
 
 is_number : (z : ℤ) (n : ℕ) → number z ≡ n → n < no_number → z ≡ pos n
 unfolding number

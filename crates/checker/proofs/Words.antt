@@ -8,7 +8,7 @@ use native.Mathlib.Omega.{arith}
 use lib.IntN.{ℤ, pos}
 use lib.ListN.{length, get_or, length-append, length-map}
 use lib.Seq.{get_or-append-add}
-use Rattle.checker.specs.Claim.{Node, Quantifier, Claim, set_var, empty, whole, union, inter, compl, num_var, const, maxc, sum, diff, multiple, card, equal, less, divided, setEqual, subset, conj, disj, neg, unknown, intQ, set_q, countQ}
+use Rattle.checker.specs.Claim.{Node, Quantifier, Claim, set_var, empty, whole, union, inter, compl, num_var, const, maxc, sum, diff, multiple, card, equal, less, divided, setEqual, subset, conj, disj, neg, unknown, intQ, setQ, countQ}
 use Rattle.checker.specs.Kinds.{number, node_of, quantifier_of}
 use Rattle.checker.specs.Words.{word, word_at, tab, root_in, nodes_in, quantifiers_in, node_at, quantifier_at, claim_of, fields_of, node_words, nodes_words, quantifier_word, mark, trailer, words_of}
 
@@ -84,10 +84,8 @@ quantifiers_back (q ∷ qs) rest = ap₂ (λ x xs. x ∷ xs) (go q) (quantifiers
     go : (q : Quantifier) → quantifier_of (quantifier_word q) ≡ q
     go (intQ true) = refl
     go (intQ false) = refl
-    go (set_q false true) = refl
-    go (set_q true true) = refl
-    go (set_q false false) = refl
-    go (set_q true false) = refl
+    go (setQ true) = refl
+    go (setQ false) = refl
     go (countQ true) = refl
     go (countQ false) = refl
 

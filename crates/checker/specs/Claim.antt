@@ -22,10 +22,9 @@ pub data Node : Type 0 where
   neg : (a : ℕ) → Node
   unknown : Node
 
--- A quantifier over integers, sets or counts: an exists if `some` is true, and a for-all if not. `one`: over sets of one port only.
+-- A quantifier over integers, sets or counts: an exists if `some` is true, and a for-all if not.
 pub data Quantifier : Type 0 where
-  intQ countQ : (some : Bool) → Quantifier
-  set_q : (one some : Bool) → Quantifier
+  intQ setQ countQ : (some : Bool) → Quantifier
 
 -- Quantifiers stand outermost first; `root` is a node's number.
 pub record Claim : Type 0 where

@@ -6,12 +6,11 @@ use Rattle.checker.specs.declared.Dialect.{Dialect}
 use Rattle.checker.specs.declared.Dialect.TheVariants.{SetClaims, Emitted}
 use Rattle.checker.specs.Kinds.{within, range_of, over_numbers}
 
--- ---- limits: those of claims over sets, and what 01's bound on an emission's size, as #112 grows it, comes to at them: with R = 2 ^ 8 regions
--- 1,024 × (2 R + 5) + 6 × (R - 1) + 8 nodes, and 2 × (R - 1) + 2 × 8 for single ports; 2 × (R - 1) counts, and 24 other quantifiers
+-- ---- limits: those of claims over sets, and what 01's bound on an emission's size comes to at them
 
 abbrev pub most_nodes : Dialect → ℕ
 most_nodes SetClaims = 1024
-most_nodes Emitted = 531472
+most_nodes Emitted = 530946
 
 abbrev pub most_quantifiers : Dialect → ℕ
 most_quantifiers SetClaims = 32

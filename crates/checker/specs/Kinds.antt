@@ -8,7 +8,7 @@ use Rattle.checker.specs.declared.Range.{Range}
 use Rattle.checker.specs.declared.Range.TheVariants.{Sets, Numbers, NoRange}
 use Rattle.checker.specs.declared.Need.{Need}
 use Rattle.checker.specs.declared.Need.TheVariants.{Unused, Word, SetChild, TermChild, FormulaChild, SetName, NumberName, Never}
-use Rattle.checker.specs.Claim.{Node, set_var, empty, whole, union, inter, compl, num_var, const, maxc, sum, diff, multiple, card, equal, less, divided, setEqual, subset, conj, disj, neg, unknown, Quantifier, intQ, set_q, countQ}
+use Rattle.checker.specs.Claim.{Node, set_var, empty, whole, union, inter, compl, num_var, const, maxc, sum, diff, multiple, card, equal, less, divided, setEqual, subset, conj, disj, neg, unknown, Quantifier, intQ, setQ, countQ}
 
 -- ---- words as numbers
 
@@ -102,22 +102,17 @@ is_formula NoSort = false
 
 -- ---- quantifiers
 
--- Kinds 1, 2, 5 and 6 range over numbers, 3 and 4 over sets, 7 and 8 over sets of one port; there is no kind 0.
+-- Kinds 1, 2, 5 and 6 range over numbers, 3 and 4 over sets; there is no kind 0.
 abbrev pub ranges : List Range
-ranges = NoRange ∷ Numbers ∷ Numbers ∷ Sets ∷ Sets ∷ Numbers ∷ Numbers ∷ Sets ∷ Sets ∷ []
+ranges = NoRange ∷ Numbers ∷ Numbers ∷ Sets ∷ Sets ∷ Numbers ∷ Numbers ∷ []
 
 unfoldable pub range_of : ℕ → Range
 range_of k = get_or ranges k NoRange
 
--- The quantifiers by their kinds from 0, of which there is none.
-abbrev pub kinds_of : List Quantifier
-kinds_of =
-    intQ true ∷ intQ true ∷ intQ false ∷ set_q false true ∷ set_q false false ∷ countQ true ∷ countQ false ∷ set_q true true ∷ set_q true false ∷ []
-
 -- The quantifier that a word stands for; what is no kind reads as an exists over integers.
 unfoldable pub quantifier_of : ℤ → Quantifier
 quantifier_of word =
-    get_or kinds_of (number word) (intQ true)
+    get_or (intQ true ∷ intQ true ∷ intQ false ∷ setQ true ∷ setQ false ∷ countQ true ∷ countQ false ∷ []) (number word) (intQ true)
 
 abbrev pub over_sets : Range → Bool
 over_sets Sets = true

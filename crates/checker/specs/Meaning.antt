@@ -3,7 +3,7 @@
 use Rattle.std.specs.Prelude.{◌≡◌, Bool, true, false, not, cond, ◌&&◌, ◌||◌, List, [], ◌∷◌, ◌++◌, ℕ, zero, suc, ◌+◌, ◌%◌, ◌≤◌, eqb, ℤ, pos, negsuc, nat_abs, ◌+ℤ◌, ◌-ℤ◌, ◌*ℤ◌, get_or}
 use Rattle.std.specs.Bool.{beq}
 use Rattle.std.specs.Int.Signed.{lt_z}
-use Rattle.checker.specs.Claim.{Node, set_var, empty, whole, union, inter, compl, num_var, const, maxc, sum, diff, multiple, card, equal, less, divided, setEqual, subset, conj, disj, neg, unknown, Quantifier, intQ, set_q, countQ, Claim}
+use Rattle.checker.specs.Claim.{Node, set_var, empty, whole, union, inter, compl, num_var, const, maxc, sum, diff, multiple, card, equal, less, divided, setEqual, subset, conj, disj, neg, unknown, Quantifier, intQ, setQ, countQ, Claim}
 
 -- ---- the value of a node
 
@@ -123,18 +123,12 @@ abbrev pub Quantified : Bool → (A : Type 0) → (A → Type 0) → Type 0
 Quantified true A P = (a : A) × P a
 Quantified false A P = (a : A) → P a
 
--- A set of n ports may be taken: any, or only one of a single port (#112).
-abbrev pub Admits : Bool → ℕ → Type 0
-Admits false n = Unit {0}
-Admits true n = n ≡ 1
-
 -- The claim holds at size N, its outer quantifiers having the values `us` and its inner ones being `qs`.
 -- Set quantifiers range over F, `members` giving the set that each stands for.
 abbrev pub Holds : (F : Type 0) → (F → Set) → ℕ → Claim → List Quantifier → List Value → Type 0
 Holds F members N c [] us = matrix (ports N) c us ≡ true
 Holds F members N c (intQ some ∷ qs) us = Quantified some ℤ (λ k. Holds F members N c qs (us ++ num k ∷ []))
-Holds F members N c (set_q one some ∷ qs) us =
-    Quantified some ((f : F) × Admits one (count N (members f))) (λ f. Holds F members N c qs (us ++ set (members f.0) ∷ []))
+Holds F members N c (setQ some ∷ qs) us = Quantified some F (λ f. Holds F members N c qs (us ++ set (members f) ∷ []))
 Holds F members N c (countQ some ∷ qs) us = Quantified some ℕ (λ k. Holds F members N c qs (us ++ num (pos k) ∷ []))
 
 -- A subset of N ports.

@@ -3,7 +3,7 @@
 use Rattle.std.specs.Prelude.{◌≡◌, Bool, true, false, List, [], ◌∷◌, ◌++◌, ℕ, suc, ◌<◌, length, get_or}
 use Rattle.checker.specs.declared.Sort.{Sort}
 use Rattle.checker.specs.declared.Sort.TheVariants.{ASet, ATerm, AFormula, NoSort}
-use Rattle.checker.specs.Claim.{Node, set_var, empty, whole, union, inter, compl, num_var, const, maxc, sum, diff, multiple, card, equal, less, divided, setEqual, subset, conj, disj, neg, unknown, Quantifier, intQ, set_q, countQ, Claim}
+use Rattle.checker.specs.Claim.{Node, set_var, empty, whole, union, inter, compl, num_var, const, maxc, sum, diff, multiple, card, equal, less, divided, setEqual, subset, conj, disj, neg, unknown, Quantifier, intQ, setQ, countQ, Claim}
 
 abbrev pub sort : Node → Sort
 sort (set_var q) = ASet
@@ -35,20 +35,8 @@ Is s nodes a = (a < length nodes) × (sort (get_or nodes a unknown) ≡ s)
 
 abbrev pub is_set_q : Quantifier → Bool
 is_set_q (intQ some) = false
-is_set_q (set_q one some) = true
+is_set_q (setQ some) = true
 is_set_q (countQ some) = false
-
--- an exists, and not a for-all
-abbrev pub is_some : Quantifier → Bool
-is_some (intQ some) = some
-is_some (set_q one some) = some
-is_some (countQ some) = some
-
--- over sets of one port only
-abbrev pub is_one : Quantifier → Bool
-is_one (intQ some) = false
-is_one (set_q one some) = one
-is_one (countQ some) = false
 
 -- q is the number of one of the quantifiers, and that binds a set (true) or a number (false)
 abbrev pub Binds : Bool → List Quantifier → ℕ → Type 0
@@ -90,13 +78,5 @@ WellSorted c = AllFit c.quantifiers [] c.nodes × Is AFormula c.nodes c.root
 unfoldable pub sets : List Quantifier → ℕ
 sets [] = 0
 sets (intQ some ∷ qs) = sets qs
-sets (set_q one some ∷ qs) = suc (sets qs)
+sets (setQ some ∷ qs) = suc (sets qs)
 sets (countQ some ∷ qs) = sets qs
-
--- 1 if one of them is over single ports, and else 0
-unfoldable pub single : List Quantifier → ℕ
-single [] = 0
-single (intQ some ∷ qs) = single qs
-single (set_q false some ∷ qs) = single qs
-single (set_q true some ∷ qs) = 1
-single (countQ some ∷ qs) = single qs

@@ -1,7 +1,7 @@
 -- A claim and the words that it is stored in (01, "The claim table"): three words a node, one a quantifier, and the trailer.
 -- Assumes nothing.
 use Rattle.std.specs.Prelude.{true, false, List, [], ◌∷◌, ◌++◌, map, ℕ, zero, suc, ◌+◌, ◌*◌, ◌-◌, ℤ, pos, length, get_or}
-use Rattle.checker.specs.Claim.{Node, set_var, empty, whole, union, inter, compl, num_var, const, maxc, sum, diff, multiple, card, equal, less, divided, setEqual, subset, conj, disj, neg, unknown, Quantifier, intQ, set_q, countQ, Claim}
+use Rattle.checker.specs.Claim.{Node, set_var, empty, whole, union, inter, compl, num_var, const, maxc, sum, diff, multiple, card, equal, less, divided, setEqual, subset, conj, disj, neg, unknown, Quantifier, intQ, setQ, countQ, Claim}
 use Rattle.checker.specs.Kinds.{number, node_of, quantifier_of}
 
 -- ---- reading
@@ -90,12 +90,10 @@ nodes_words (n ∷ ns) = node_words n ++ nodes_words ns
 abbrev pub quantifier_word : Quantifier → ℤ
 quantifier_word (intQ true) = pos 1
 quantifier_word (intQ false) = pos 2
-quantifier_word (set_q false true) = pos 3
-quantifier_word (set_q false false) = pos 4
+quantifier_word (setQ true) = pos 3
+quantifier_word (setQ false) = pos 4
 quantifier_word (countQ true) = pos 5
 quantifier_word (countQ false) = pos 6
-quantifier_word (set_q true true) = pos 7
-quantifier_word (set_q true false) = pos 8
 
 abbrev pub mark : ℕ
 mark = 2005

@@ -1,7 +1,6 @@
 // What a kind of node or quantifier is, and what a node's fields must be.
-ghost use Rattle.std.specs.Prelude.{◌≡◌, pos};
-ghost use Rattle.checker.specs.Kinds.{sort_of, range_of, row_of, quantifier_of};
-ghost use Rattle.checker.specs.Sorts.{is_set_q, is_some, is_one};
+ghost use Rattle.std.specs.Prelude.{◌≡◌};
+ghost use Rattle.checker.specs.Kinds.{sort_of, range_of, row_of};
 
 use crate::{Need, Range, Row, Sort};
 
@@ -17,7 +16,7 @@ pub fn sort_of(kind: usize) -> Sort
 }
 
 // By their kinds from 0, of which there is none.
-const RANGES: [Range; 9] = [
+const RANGES: [Range; 7] = [
     Range::NoRange,
     Range::Numbers,
     Range::Numbers,
@@ -25,51 +24,15 @@ const RANGES: [Range; 9] = [
     Range::Sets,
     Range::Numbers,
     Range::Numbers,
-    Range::Sets,
-    Range::Sets,
 ];
 
 pub fn range_of(kind: usize) -> Range
     ensures { result ≡ range_of kind }
 {
-    if kind < 9 {
+    if kind < 7 {
         return RANGES[kind];
     }
     Range::NoRange
-}
-
-// Of each kind of quantifier from 0: whether it binds a set, whether it is an exists, and whether it is over single ports.
-const BIND_SETS: [bool; 9] = [false, false, false, true, true, false, false, true, true];
-
-const EXISTS: [bool; 9] = [true, true, false, true, false, true, false, true, false];
-
-const SINGLE: [bool; 9] = [false, false, false, false, false, false, false, true, true];
-
-pub fn binds_set(kind: usize) -> bool
-    ensures { result ≡ is_set_q (quantifier_of (pos kind)) }
-{
-    if kind < 9 {
-        return BIND_SETS[kind];
-    }
-    false
-}
-
-pub fn is_exists(kind: usize) -> bool
-    ensures { result ≡ is_some (quantifier_of (pos kind)) }
-{
-    if kind < 9 {
-        return EXISTS[kind];
-    }
-    true
-}
-
-pub fn is_single(kind: usize) -> bool
-    ensures { result ≡ is_one (quantifier_of (pos kind)) }
-{
-    if kind < 9 {
-        return SINGLE[kind];
-    }
-    false
 }
 
 // What the rows of the table require in a and in b.

@@ -5,7 +5,7 @@ ghost use Rattle.checker.specs.Words.{word_at};
 ghost use Rattle.checker.specs.Check.{check_as, check_of, table_at, parts_of, refusal, Room};
 
 mod dialects; // the limits of each dialect, and the kinds that it takes
-pub mod kinds; // what a kind of node or quantifier is and requires
+mod kinds; // what a kind of node or quantifier is and requires
 pub mod names; // the limits by name
 mod nodes; // the check of a node
 mod quantifiers; // the checks of the quantifiers

@@ -5,6 +5,6 @@ pub const MAX_QUANTIFIERS: usize = 32;
 
 pub const MAX_SETS: usize = 8;
 
-pub const MAX_EMITTED_NODES: usize = 531472;
+pub const MAX_EMITTED_NODES: usize = 530946;
 
 pub const MAX_EMITTED_QUANTIFIERS: usize = 534;

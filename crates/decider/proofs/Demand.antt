@@ -4,7 +4,7 @@ use mathlib.Core.Path.{◌≡◌, refl}
 use mathlib.Core.Logic.{◌↔◌}
 use mathlib.Core.Bool.{Bool, true, false, cond, false≢true}
 use mathlib.Core.List.{List}
-use Prim.Native.Nat.{ℕ, ◌+◌, ◌*◌, ◌≤◌, ◌^◌}
+use Prim.Native.Nat.{ℕ, ◌≤◌, ◌^◌}
 use native.Mathlib.Omega.{arith}
 use lib.Dec.{leb}
 use lib.IntN.{ℤ}
@@ -12,7 +12,7 @@ use Rattle.checker.specs.declared.Shape.{Shape}
 use Rattle.checker.specs.declared.Checked.{Checked}
 use Rattle.checker.specs.declared.Checked.TheVariants as checked
 use Rattle.checker.specs.Words.{claim_of}
-use Rattle.checker.specs.Sorts.{sets, single}
+use Rattle.checker.specs.Sorts.{sets}
 use Rattle.checker.specs.Meaning.{TrueAt}
 use Rattle.checker.specs.Check.{check_of}
 use Rattle.decider.specs.declared.Decision.{Decision}
@@ -61,10 +61,10 @@ module _ (ws : List ℤ) (N allowance steps : ℕ) where
   unfolding tells
   false_is_false e t = false≢true ((said_truth false e).1 t)
 
--- Demand 3: for a claim without number terms and comparisons, the answer at one size of at least 2^S, or 2 × 2^S with single ports, is that at every such size.
-module _ (ws : List ℤ) (N allowance steps : ℕ) (plain : no_numbers (claim_of ws).nodes ≡ true) (large : (single (claim_of ws).quantifiers + 1) * 2 ^ sets (claim_of ws).quantifiers ≤ N) where
-  pub demand_3_true : decision_of ws N allowance ≡ True steps → (M : ℕ) → (single (claim_of ws).quantifiers + 1) * 2 ^ sets (claim_of ws).quantifiers ≤ M → TrueAt M (claim_of ws)
+-- Demand 3: for a claim without number terms and comparisons, the answer at one size of at least 2^S is that at every such size.
+module _ (ws : List ℤ) (N allowance steps : ℕ) (plain : no_numbers (claim_of ws).nodes ≡ true) (large : 2 ^ sets (claim_of ws).quantifiers ≤ N) where
+  pub demand_3_true : decision_of ws N allowance ≡ True steps → (M : ℕ) → 2 ^ sets (claim_of ws).quantifiers ≤ M → TrueAt M (claim_of ws)
   demand_3_true e M m = (plain_threshold (claim_of ws) plain N M large m).0 (true_is_true ws N allowance steps e)
 
-  pub demand_3_false : decision_of ws N allowance ≡ False steps → (M : ℕ) → (single (claim_of ws).quantifiers + 1) * 2 ^ sets (claim_of ws).quantifiers ≤ M → TrueAt M (claim_of ws) → ⊥
+  pub demand_3_false : decision_of ws N allowance ≡ False steps → (M : ℕ) → 2 ^ sets (claim_of ws).quantifiers ≤ M → TrueAt M (claim_of ws) → ⊥
   demand_3_false e M m t = false_is_false ws N allowance steps e ((plain_threshold (claim_of ws) plain N M large m).1 t)

@@ -1,6 +1,6 @@
 -- The rule over a lent array of counts: region h stands at place h, and what the rule is given at split h is the array's front of 2 h entries.
 -- Assumes nothing.
-use mathlib.Core.Path.{◌≡◌, refl, sym, ap, ◌∙◌}
+use mathlib.Core.Path.{◌≡◌, refl, sym, ap, ap₂, ◌∙◌}
 use mathlib.Core.Bool.{Bool, true, false}
 use mathlib.Core.List.{List, [], ◌∷◌, append_assoc}
 use Prim.Native.Nat.{ℕ, suc, ◌+◌, ◌-◌, ◌≤◌, ◌<◌}
@@ -98,7 +98,10 @@ module _ (P : Plan) (regions h : ℕ) (e : List ℕ) where
   leaf same = rule_none same ∙ ap (λ n. record { truth = P.matrix (drop n (take (n + n) e)); steps = 1 }) same
 
 -- The run of all tries at split h is the rule there.
-pub run : (c : Claim) (regions h : ℕ) (e : List ℕ) → h < regions → (some : Bool) (from end : ℕ) → some ≡ (plan_of c).some h
-    → from ≡ (plan_of c).from h (take (h + h) e) → end ≡ (plan_of c).end h (take (h + h) e)
-    → tries some (next (plan_of c) regions h e) (end - from) from ≡ rule (plan_of c) (regions - h) h (take (h + h) e)
-run c regions h e lt some from end q a b = rw (q, a, b) (sym (rule_more (plan_of c) regions h e lt))
+pub run : (c : Claim) (regions h : ℕ) (e : List ℕ) → 0 < h → h < regions → (some : Bool) → some ≡ (plan_of c).some h
+    → tries some (next (plan_of c) regions h e) (get_or e h 0 + 1 - 0) 0 ≡ rule (plan_of c) (regions - h) h (take (h + h) e)
+run c regions h e pos lt some q =
+    let below : h < h + h = omega arith in
+    sym
+    (rule_more (plan_of c) regions h e lt
+    ∙ ap₂ (λ b n. tries b (next (plan_of c) regions h e) (n + 1 - 0) 0) (sym q) (get_or-take (h + h) e h 0 below))

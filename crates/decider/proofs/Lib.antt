@@ -1,21 +1,16 @@
 -- What is proved of the rule and its answers.
 pub mod Tries
-pub mod Single
-pub mod Insides
-pub mod Queue
 pub mod Truth
 pub mod Alike
 pub mod Threshold
 pub mod Small
 pub mod Answer
+pub mod Steps
 pub mod Total
 pub mod Admitted
 pub mod Demand
 pub mod SetLimit
-pub mod WithoutPorts
-pub mod Steps
 pub mod Heap
 pub mod Passing
 pub mod Levels
-pub mod Codes
 pub mod Settling

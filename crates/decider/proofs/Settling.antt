@@ -76,10 +76,10 @@ known_split c N order n regions h k l given xs e u =
     let m = finals_more (take (h + h) l) ((get_or (take (h + h) l) h 0 - k) ∷ k ∷ []) regions in
     subst (λ z. Known c N z order n xs) (sym (ap (drop regions) e ∙ m.1)) (known_more c N order n (finals regions h l) m.0 xs u)
 
--- The same where splits are passed over.
-pub known_passed : (c : Claim) (N : ℕ) (order : List ℕ) (n regions h r : ℕ) (already : Bool) (l m : List ℕ) (xs : List ℤ)
-    → Passed c regions h l r already m → Known c N (finals regions h l) order n xs → Known c N (finals regions r m) order n xs
-known_passed c N order n regions h r already l m xs p u =
+-- The same where regions without ports are passed over.
+pub known_passed : (c : Claim) (N : ℕ) (order : List ℕ) (n regions h r : ℕ) (l m : List ℕ) (xs : List ℤ)
+    → Passed regions h l r m → Known c N (finals regions h l) order n xs → Known c N (finals regions r m) order n xs
+known_passed c N order n regions h r l m xs p u =
     let more = take (r + r - (h + h)) (drop (h + h) m) in
     let front : take (r + r) m ≡ take (h + h) l ++ more =
     let sum : h + h + (r + r - (h + h)) ≡ r + r = omega (arith, p.from) in
@@ -97,8 +97,8 @@ pub prepared_less : {ws : List ℤ} {patterns order : List ℕ} {room size rows 
 prepared_less {ws} {size = size} {rows = rows} {to = to} l p =
     record { ready = p.ready; filled = p.filled; ordered = order_less (claim_of ws) size _ rows to l p.ordered; roomy = p.roomy; small = p.small }
 
-pub guided_kept : {c : Claim} {turns upto patterns order : List ℕ} {room room' rows plain regions : ℕ} → room' ≡ room
-    → Guided c turns upto patterns order room rows plain regions → Guided c turns upto patterns order room' rows plain regions
+pub guided_kept : {c : Claim} {kinds upto patterns order : List ℕ} {room room' rows regions : ℕ} → room' ≡ room → Guided c kinds upto patterns order room rows regions
+    → Guided c kinds upto patterns order room' rows regions
 guided_kept e g = rw e g
 
 -- ---- arrays

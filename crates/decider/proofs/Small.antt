@@ -1,4 +1,4 @@
--- P8: 01's small claims, and some about single ports, have their known outcomes. The rule is computed, and its truth is the meaning's by P6. Assumes nothing.
+-- P8: 01's small claims have their known outcomes. The rule is computed, and its truth is the meaning's by P6. Assumes nothing.
 use mathlib.Core.Path.{◌≡◌, refl}
 use mathlib.Core.Logic.Iff
 use mathlib.Core.Bool.{Bool, true, false, ◌&&◌, beq}
@@ -12,7 +12,7 @@ use Rattle.checker.proofs.Bools.{both_told}
 use Rattle.region.specs.Regions.{over}
 use Rattle.decider.specs.Rule.{joined, tries, rule}
 use Rattle.matrix.specs.Final.{final_values}
-use Rattle.decider.specs.Plan.{level_at, ruling, only_sets}
+use Rattle.decider.specs.Plan.{some_at, ruling, only_sets}
 use Rattle.decider.specs.Small.{Case, Right, AllRight, small_claims}
 use Rattle.decider.proofs.Truth.{rule_true}
 
@@ -48,5 +48,5 @@ all_right [] t = tt
 all_right (k ∷ ks) t = let a = both_told (passes k) (all_pass ks) t in (right k a.0, all_right ks a.1)
 
 pub small : AllRight small_claims
-unfolding passes all_pass number node_of quantifier_of word_at claim_of sets value_of values matrix set_at num_at truth_at over joined tries rule final_values level_at ruling only_sets
+unfolding passes all_pass number node_of quantifier_of word_at claim_of sets value_of values matrix set_at num_at truth_at over joined tries rule final_values some_at ruling only_sets
 small = all_right small_claims tt

@@ -12,18 +12,18 @@ use lib.Dec.{leb, eqb}
 use lib.IntN.{ℤ, pos}
 use lib.ListN.{get_or}
 use lib.Signed.{lt_z}
-use Rattle.checker.specs.Claim.{Node, set_var, empty, whole, union, inter, compl, num_var, const, maxc, sum, diff, multiple, card, equal, less, divided, setEqual, subset, conj, disj, neg, unknown, Quantifier, intQ, set_q, countQ, Claim}
+use Rattle.checker.specs.Claim.{Node, set_var, empty, whole, union, inter, compl, num_var, const, maxc, sum, diff, multiple, card, equal, less, divided, setEqual, subset, conj, disj, neg, unknown, Quantifier, intQ, setQ, countQ, Claim}
 use Rattle.checker.specs.Kinds.{number, within}
 use Rattle.checker.specs.Words.{fields_of}
-use Rattle.checker.specs.Sorts.{is_set_q, sets, single}
-use Rattle.checker.specs.Meaning.{Set, Value, num, truth, as_set, as_num, as_truth, set_at, num_at, truth_at, eq_z, value_of, values, matrix, Admits, TrueAt}
+use Rattle.checker.specs.Sorts.{sets}
+use Rattle.checker.specs.Meaning.{Set, Value, num, truth, as_set, as_num, as_truth, set_at, num_at, truth_at, eq_z, value_of, values, matrix, TrueAt}
 use Rattle.checker.proofs.Sorts.{inside}
 use Rattle.checker.proofs.Bools.{both}
-use Rattle.region.specs.Regions.{odd, Split, over, minus, regions}
+use Rattle.region.specs.Regions.{Split, over, minus, regions}
 use Rattle.region.specs.Counting.{grow, HoldsR, TrueAtR}
 use Rattle.region.proofs.Quantified.{quantified_imp}
 use Rattle.region.proofs.Counting.{theorem_a}
-use Rattle.decider.specs.Threshold.{kind, is_constant, is_cardinality, joins, allowed, all_allowed, Thresholds, above, largest, no_numbers, reach_of}
+use Rattle.decider.specs.Threshold.{kind, is_constant, is_cardinality, joins, allowed, all_allowed, Thresholds, above, largest, no_numbers}
 use Rattle.decider.proofs.Alike.{Alike, alike_sym, alike_over, transfer, Blunt, eqb_alike, equal_blunt, less_blunt}
 
 or_one : (a b : Bool) → (a || b) ≡ true → (a ≡ true) ⊎ (b ≡ true)
@@ -178,84 +178,44 @@ module _ (K : ℕ) where
 level : ℕ → List Quantifier → ℕ
 level K [] = suc K
 level K (intQ some ∷ qs) = level K qs
-level K (set_q one some ∷ qs) = 2 * level K qs
+level K (setQ some ∷ qs) = 2 * level K qs
 level K (countQ some ∷ qs) = level K qs
 
 level_is : (K : ℕ) (qs : List Quantifier) → level K qs ≡ (K + 1) * 2 ^ sets qs
 unfolding level sets
 level_is K [] = omega arith
 level_is K (intQ some ∷ qs) = level_is K qs
-level_is K (set_q one some ∷ qs) = rw (level_is K qs, pow-suc 2 (sets qs)) (omega arith)
+level_is K (setQ some ∷ qs) = rw (level_is K qs, pow-suc 2 (sets qs)) (omega arith)
 level_is K (countQ some ∷ qs) = level_is K qs
 
-level_ge : (K : ℕ) (qs : List Quantifier) → suc K ≤ level K qs
-unfolding level
-level_ge K [] = omega arith
-level_ge K (intQ some ∷ qs) = level_ge K qs
-level_ge K (set_q one some ∷ qs) = omega (arith, level_ge K qs)
-level_ge K (countQ some ∷ qs) = level_ge K qs
-
-single_le : (K : ℕ) (qs : List Quantifier) → 1 ≤ K → single qs ≤ K
-unfolding single
-single_le K [] g = omega arith
-single_le K (intQ some ∷ qs) g = single_le K qs g
-single_le K (set_q false some ∷ qs) g = single_le K qs g
-single_le K (set_q true some ∷ qs) g = g
-single_le K (countQ some ∷ qs) g = single_le K qs g
-
-number_rest : (K : ℕ) (q : Quantifier) (qs : List Quantifier) → is_set_q q ≡ false → single (q ∷ qs) ≤ K → single qs ≤ K
-unfolding single
-number_rest K (intQ some) qs e g = g
-number_rest K (set_q one some) qs e g = absurd (false≢true (sym e))
-number_rest K (countQ some) qs e g = g
-
--- what is left of a bound on single ports
-single_rest : (K : ℕ) (one some : Bool) (qs : List Quantifier) → single (set_q one some ∷ qs) ≤ K → single qs ≤ K
-unfolding single
-single_rest K false some qs g = g
-single_rest K true some qs g = single_le K qs g
-
--- being one port is not lost below K + 1, K being at least 1 then
-admits_alike : (K : ℕ) (one some : Bool) (qs : List Quantifier) → single (set_q one some ∷ qs) ≤ K → (ls ms : List ℕ) → Alike (level K qs) ls ms
-    → Admits one (over odd ls) → Admits one (over odd ms)
-unfolding single
-admits_alike K false some qs g ls ms h a = a
-admits_alike K true some qs g ls ms h a = omega (arith, g, level_ge K qs, alike_over (level K qs) ls ms h odd)
-
 module _ (c : Claim) (o : Thresholds c) (K : ℕ) (l : largest c.nodes ≤ K) where
-  carried : (qs : List Quantifier) → single qs ≤ K → (vs : List Value) (cs ds : List ℕ) → Alike (level K qs) cs ds → HoldsR c qs vs cs → HoldsR c qs vs ds
+  carried : (qs : List Quantifier) (vs : List Value) (cs ds : List ℕ) → Alike (level K qs) cs ds → HoldsR c qs vs cs → HoldsR c qs vs ds
   unfolding level matrix
-  carried [] g vs cs ds h = λ t. sym (same_values K cs ds h vs c.nodes [] [] [] tt o.only l c.root) ∙ t
-  carried (intQ some ∷ qs) g vs cs ds h =
-      let less : single qs ≤ K = number_rest K (intQ some) qs refl g in
-      quantified_imp some (λ k. k) (λ k. k) (λ k. carried qs less (vs ++ num k ∷ []) cs ds h) (λ k. carried qs less (vs ++ num k ∷ []) cs ds h)
-  carried (set_q one some ∷ qs) g vs cs ds h =
-      let less : single qs ≤ K = single_rest K one some qs g in
-      let there : (x : (ls : List ℕ) × (Split cs ls × Admits one (over odd ls))) → (ms : List ℕ) × (Split ds ms × Alike (level K qs) x.0 ms) =
-      λ x. transfer (level K qs) cs ds x.0 h x.1.0 in
-      let back : (y : (ms : List ℕ) × (Split ds ms × Admits one (over odd ms))) → (ls : List ℕ) × (Split cs ls × Alike (level K qs) y.0 ls) =
-      λ y. transfer (level K qs) ds cs y.0 (alike_sym (2 * level K qs) cs ds h) y.1.0 in
-      quantified_imp some
-      (λ x. ((there x).0, ((there x).1.0, admits_alike K one some qs g x.0 (there x).0 (there x).1.1 x.1.1)))
-      (λ y. ((back y).0, ((back y).1.0, admits_alike K one some qs g y.0 (back y).0 (back y).1.1 y.1.1)))
-      (λ x. carried qs less (grow vs) x.0 (there x).0 (there x).1.1)
-      (λ y. carried qs less (grow vs) (back y).0 y.0 (alike_sym (level K qs) y.0 (back y).0 (back y).1.1))
-  carried (countQ some ∷ qs) g vs cs ds h =
-      let less : single qs ≤ K = number_rest K (countQ some) qs refl g in
-      quantified_imp some (λ k. k) (λ k. k) (λ k. carried qs less (vs ++ num (pos k) ∷ []) cs ds h) (λ k. carried qs less (vs ++ num (pos k) ∷ []) cs ds h)
+  carried [] vs cs ds h = λ t. sym (same_values K cs ds h vs c.nodes [] [] [] tt o.only l c.root) ∙ t
+  carried (intQ some ∷ qs) vs cs ds h =
+      quantified_imp some (λ k. k) (λ k. k) (λ k. carried qs (vs ++ num k ∷ []) cs ds h) (λ k. carried qs (vs ++ num k ∷ []) cs ds h)
+  carried (setQ some ∷ qs) vs cs ds h =
+      let there : (x : (ls : List ℕ) × Split cs ls) → (ms : List ℕ) × (Split ds ms × Alike (level K qs) x.0 ms) =
+      λ x. transfer (level K qs) cs ds x.0 h x.1 in
+      let back : (y : (ms : List ℕ) × Split ds ms) → (ls : List ℕ) × (Split cs ls × Alike (level K qs) y.0 ls) =
+      λ y. transfer (level K qs) ds cs y.0 (alike_sym (2 * level K qs) cs ds h) y.1 in
+      quantified_imp some (λ x. ((there x).0, (there x).1.0)) (λ y. ((back y).0, (back y).1.0))
+      (λ x. carried qs (grow vs) x.0 (there x).0 (there x).1.1)
+      (λ y. carried qs (grow vs) (back y).0 y.0 (alike_sym (level K qs) y.0 (back y).0 (back y).1.1))
+  carried (countQ some ∷ qs) vs cs ds h =
+      quantified_imp some (λ k. k) (λ k. k) (λ k. carried qs (vs ++ num (pos k) ∷ []) cs ds h) (λ k. carried qs (vs ++ num (pos k) ∷ []) cs ds h)
 
--- P7: with K the largest constant, at least 1 where a quantifier is over single ports, and S sets, the truth is the same at all sizes from
--- (K + 1) × 2^S up. Number quantifiers may stand.
-pub threshold : (c : Claim) → Thresholds c → (N M : ℕ) → (reach_of c + 1) * 2 ^ sets c.quantifiers ≤ N
-    → (reach_of c + 1) * 2 ^ sets c.quantifiers ≤ M → TrueAt N c ↔ TrueAt M c
+-- P7: with K the largest constant and S sets, the truth is the same at all sizes from (K + 1) × 2^S up. Number quantifiers may stand.
+pub threshold : (c : Claim) → Thresholds c → (N M : ℕ) → (largest c.nodes + 1) * 2 ^ sets c.quantifiers ≤ N
+    → (largest c.nodes + 1) * 2 ^ sets c.quantifiers ≤ M → TrueAt N c ↔ TrueAt M c
 threshold c o N M n m = Iff.trans (theorem_a N c) (Iff.trans (to N M n m, to M N m n) (Iff.symm (theorem_a M c)))
   where
     K : ℕ
-    K = reach_of c
+    K = largest c.nodes
 
     to : (N M : ℕ) → (K + 1) * 2 ^ sets c.quantifiers ≤ N → (K + 1) * 2 ^ sets c.quantifiers ≤ M → TrueAtR N c → TrueAtR M c
     to N M n m t =
-        carried c o K (omega arith) c.quantifiers (omega arith) [] (N ∷ []) (M ∷ []) (omega (arith, level_is K c.quantifiers), tt) t
+        carried c o K (omega arith) c.quantifiers [] (N ∷ []) (M ∷ []) (omega (arith, level_is K c.quantifiers), tt) t
 
 -- ---- without number terms and comparisons
 
@@ -295,10 +255,10 @@ no_numbers_lem done (n ∷ ns) e =
     let rest = no_numbers_lem (done ++ n ∷ []) ns both.1 in
     (ap₂ ◌&&◌ here.0 rest.0, rw (here.1, rest.1))
 
--- The truth of a claim without number terms and comparisons is the same at all sizes from 2^S up, or 2 × 2^S with single ports.
-pub plain_threshold : (c : Claim) → no_numbers c.nodes ≡ true → (N M : ℕ) → (single c.quantifiers + 1) * 2 ^ sets c.quantifiers ≤ N
-    → (single c.quantifiers + 1) * 2 ^ sets c.quantifiers ≤ M → TrueAt N c ↔ TrueAt M c
+-- The truth of a claim without number terms and comparisons is the same at all sizes from 2^S up.
+pub plain_threshold : (c : Claim) → no_numbers c.nodes ≡ true → (N M : ℕ) → 2 ^ sets c.quantifiers ≤ N → 2 ^ sets c.quantifiers ≤ M
+    → TrueAt N c ↔ TrueAt M c
 plain_threshold c e N M n m =
     let h = no_numbers_lem [] c.nodes e in
-    let least : reach_of c ≡ single c.quantifiers = omega (arith, h.1) in
-    threshold c (record { only = h.0 }) N M (rw least n) (rw least m)
+    let least : (largest c.nodes + 1) * 2 ^ sets c.quantifiers ≡ 2 ^ sets c.quantifiers = rw h.1 (omega arith) in
+    threshold c (record { only = h.0 }) N M (omega arith) (omega arith)

@@ -1,9 +1,8 @@
 -- What a run of tries finds, and that it takes a step. Assumes nothing.
 use mathlib.Core.Path.{◌≡◌, refl, subst}
 use mathlib.Core.Logic.{◌↔◌, ◌⊎◌, inl, inr, ⊎_elim}
-use mathlib.Core.Bool.{Bool, true, false, cond, not, false≢true}
+use mathlib.Core.Bool.{Bool, true, false, cond, false≢true}
 use Prim.Native.Nat.{ℕ, zero, suc, ◌+◌, ◌≤◌, ◌<◌}
-use native.Mathlib.Nat.{add-zero, zero-add}
 use native.Mathlib.Decide.{dec_lt}
 use native.Mathlib.Omega.{arith}
 use Rattle.checker.specs.Meaning.{Quantified}
@@ -86,29 +85,8 @@ joined_steps some r rest h = go (stops some r.truth)
     go true = h
     go false = omega arith
 
--- A run of at least one try takes a step, if the first does.
-pub tries_steps : (some : Bool) (f : ℕ → Ruling) (n k : ℕ) → 1 ≤ n → 1 ≤ (f k).steps → 1 ≤ (tries some f n k).steps
+-- A run of at least one try takes a step, if each try does.
+pub tries_steps : (some : Bool) (f : ℕ → Ruling) (n k : ℕ) → 1 ≤ n → ((j : ℕ) → 1 ≤ (f j).steps) → 1 ≤ (tries some f n k).steps
 unfolding tries
 tries_steps some f zero k l h = absurd (omega arith)
-tries_steps some f (suc n) k l h = joined_steps some (f k) (tries some f n (k + 1)) h
-
--- A run of one try is that try.
-pub one_try : (some : Bool) (f : ℕ → Ruling) (k : ℕ) → tries some f 1 k ≡ f k
-unfolding tries joined
-one_try some f k = go some (f k).truth refl
-  where
-    go : (b t : Bool) → (f k).truth ≡ t → tries b f 1 k ≡ f k
-    go true true e = rw e
-    go true false e = rw (e, add-zero (f k).steps)
-    go false true e = rw (e, add-zero (f k).steps)
-    go false false e = rw e
-
--- What an exists or a for-all over nothing comes to, in no step.
-abbrev pub nothing : Bool → Ruling
-nothing some = record { truth = not some; steps = 0 }
-
--- A first try that finds nothing leaves the others.
-pub nothing_first : (some : Bool) (f : ℕ → Ruling) (n k : ℕ) → f k ≡ nothing some → tries some f (suc n) k ≡ tries some f n (k + 1)
-unfolding tries joined
-nothing_first true f n k e = rw (e, zero-add (tries true f n (k + 1)).steps)
-nothing_first false f n k e = rw (e, zero-add (tries false f n (k + 1)).steps)
+tries_steps some f (suc n) k l h = joined_steps some (f k) (tries some f n (k + 1)) (h k)

@@ -1,5 +1,5 @@
--- The small claims with known outcomes that 01 marks with a star, and after them some about single ports (#112), as words, with what is said of them:
--- the truth is that of the meaning, and the steps are those of the rule. Assumes nothing.
+-- The small claims with known outcomes that 01 marks with a star, as words, and what it says of them: the truth is that of the meaning, and
+-- the steps are those of the rule. Assumes nothing.
 use Rattle.std.specs.Prelude.{◌≡◌, ◌↔◌, Bool, true, false, List, [], ◌∷◌, map, ℕ, ℤ, pos}
 use Rattle.checker.specs.Words.{claim_of}
 use Rattle.checker.specs.Meaning.{TrueAt}
@@ -42,22 +42,6 @@ abbrev pub halved : List ℕ
 halved =
     1 ∷ 0 ∷ 0 ∷ 1 ∷ 1 ∷ 0 ∷ 5 ∷ 0 ∷ 1 ∷ 6 ∷ 1 ∷ 0 ∷ 5 ∷ 0 ∷ 3 ∷ 16 ∷ 2 ∷ 0 ∷ 16 ∷ 4 ∷ 0 ∷ 20 ∷ 5 ∷ 6 ∷ 4 ∷ 3 ∷ 7 ∷ 8 ∷ 2 ∷ 2005 ∷ []
 
--- exists single y, |y| = 1
-abbrev pub port : List ℕ
-port = 1 ∷ 0 ∷ 0 ∷ 16 ∷ 0 ∷ 0 ∷ 11 ∷ 1 ∷ 0 ∷ 20 ∷ 1 ∷ 2 ∷ 7 ∷ 3 ∷ 4 ∷ 1 ∷ 2005 ∷ []
-
--- for all single x exists single y, x = y
-abbrev pub ports : List ℕ
-ports = 1 ∷ 0 ∷ 0 ∷ 1 ∷ 1 ∷ 0 ∷ 23 ∷ 0 ∷ 1 ∷ 8 ∷ 7 ∷ 2 ∷ 3 ∷ 2 ∷ 2005 ∷ []
-
--- for all single x exists single y, not x = y
-abbrev pub others : List ℕ
-others = 1 ∷ 0 ∷ 0 ∷ 1 ∷ 1 ∷ 0 ∷ 23 ∷ 0 ∷ 1 ∷ 27 ∷ 2 ∷ 0 ∷ 8 ∷ 7 ∷ 3 ∷ 4 ∷ 2 ∷ 2005 ∷ []
-
--- for all x exists single y, y within x
-abbrev pub in_any : List ℕ
-in_any = 1 ∷ 0 ∷ 0 ∷ 1 ∷ 1 ∷ 0 ∷ 24 ∷ 1 ∷ 0 ∷ 4 ∷ 7 ∷ 2 ∷ 3 ∷ 2 ∷ 2005 ∷ []
-
 abbrev pub case : List ℕ → ℕ → Bool → ℕ → Case
 case ws n t s = record { words = map pos ws; size = n; truth = t; steps = s }
 
@@ -73,11 +57,4 @@ small_claims =
     ∷ case both 5 true 6
     ∷ case halved 0 true 1
     ∷ case halved 1 false 3
-    ∷ case port 0 false 0
-    ∷ case port 3 true 1
-    ∷ case ports 0 true 0
-    ∷ case ports 3 true 1
-    ∷ case others 1 false 1
-    ∷ case others 2 true 2
-    ∷ case in_any 1 false 1
     ∷ []

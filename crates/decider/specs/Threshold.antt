@@ -4,7 +4,6 @@ use Rattle.std.specs.Prelude.{◌≡◌, Bool, true, cond, not, ◌&&◌, ◌||�
 use Rattle.checker.specs.Claim.{Node, unknown, Claim}
 use Rattle.checker.specs.Kinds.{number, within}
 use Rattle.checker.specs.Words.{fields_of}
-use Rattle.checker.specs.Sorts.{single}
 
 abbrev pub kind : Node → ℕ
 kind n = (fields_of n).kind
@@ -47,7 +46,3 @@ largest (n ∷ ns) = max (cond (is_constant n) (above (fields_of n).a) 0) (large
 unfoldable pub no_numbers : List Node → Bool
 no_numbers [] = true
 no_numbers (n ∷ ns) = not (within 10 16 (kind n) || within 20 22 (kind n)) && no_numbers ns
-
--- K of demand 3 and of the least size: at least 1 where a quantifier is over single ports
-abbrev pub reach_of : Claim → ℕ
-reach_of c = max (largest c.nodes) (single c.quantifiers)

@@ -14,10 +14,9 @@ use checker::{Checked, Shape};
 
 mod admission; // refusals 9 to 11
 mod allowance; // steps, paid for one at a time
-mod pass; // the tries at a split
+mod kinds; // which quantifier a split belongs to
 mod prepare; // what is settled before a search
 mod search; // the splits, in order
-mod turns; // the quantifier of each split
 
 // True or false with the steps taken; or the allowance is spent, all of it; or a refusal.
 #[derive(Drop)]
@@ -53,16 +52,16 @@ fn rule_in(
     patterns: &mut [u64],
     order: &mut [usize],
     upto: &mut [usize],
-    turns: &mut [u8],
+    kinds: &mut [u8],
     values: &mut [i32],
     counts: &mut [u32],
 ) -> Reply
     requires words_value { admission size (claim_of words.now) (check_of words.now) ≡ Accepted shape }
     requires taken_bound { a.left + a.taken < 2 ^ 64 }
-    requires roomy { Roomy shape patterns.old × Frame shape (length order.old) (length upto.old) (length turns.old) (length values.old) (length counts.old) }
+    requires roomy { Roomy shape patterns.old × Frame shape (length order.old) (length upto.old) (length kinds.old) (length values.old) (length counts.old) }
     ensures { result ≡ reply (ruling size (claim_of words.now)) a }
 {
-    let arrangement = prepare::prepare(words, shape, patterns, order, upto, turns);
+    let arrangement = prepare::prepare(words, shape, patterns, order, upto, kinds);
     counts[0] = 0;
     counts[1] = size;
     search::search(
@@ -70,12 +69,11 @@ fn rule_in(
         patterns,
         order,
         upto,
-        turns,
+        kinds,
         arrangement,
         shape.root,
         size,
         1,
-        false,
         counts,
         values,
         a,
@@ -92,7 +90,7 @@ fn rule_narrow(words: &[i32], size: u32, shape: Shape, a: Allowance) -> Reply
     let mut patterns = [0u64; region::NARROW];
     let mut order = [0usize; 1024];
     let mut upto = [0usize; 65];
-    let mut turns = [0u8; 64];
+    let mut kinds = [0u8; 64];
     let mut values = [0i32; 1024];
     let mut counts = [0u32; 128];
     rule_in(
@@ -103,7 +101,7 @@ fn rule_narrow(words: &[i32], size: u32, shape: Shape, a: Allowance) -> Reply
         &mut patterns,
         &mut order,
         &mut upto,
-        &mut turns,
+        &mut kinds,
         &mut values,
         &mut counts,
     )
@@ -118,7 +116,7 @@ fn rule_wide(words: &[i32], size: u32, shape: Shape, a: Allowance) -> Reply
     let mut patterns = [0u64; region::WIDE];
     let mut order = [0usize; 1024];
     let mut upto = [0usize; 257];
-    let mut turns = [0u8; 256];
+    let mut kinds = [0u8; 256];
     let mut values = [0i32; 1024];
     let mut counts = [0u32; 512];
     rule_in(
@@ -129,7 +127,7 @@ fn rule_wide(words: &[i32], size: u32, shape: Shape, a: Allowance) -> Reply
         &mut patterns,
         &mut order,
         &mut upto,
-        &mut turns,
+        &mut kinds,
         &mut values,
         &mut counts,
     )

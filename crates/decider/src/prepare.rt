@@ -1,4 +1,4 @@
-// What a claim settles before a search: its patterns, the order of its nodes, and the quantifier of each split.
+// What a claim settles before a search: its patterns, the order of its nodes, and the kind of each split.
 ghost use Rattle.std.specs.Prelude.{◌≡◌, ◌^◌, ◌<◌, ◌≤◌, T, length};
 ghost use Rattle.checker.specs.declared.Checked.TheVariants.{Accepted};
 ghost use Rattle.checker.specs.Words.{claim_of};
@@ -9,12 +9,11 @@ ghost use Rattle.decider.specs.Standing.{Arranged};
 
 use checker::Shape;
 
-// How many nodes are worked out, how many regions there are, and up to which split all are over any sets.
+// How many nodes are worked out, and how many regions there are.
 #[derive(Drop)]
 pub struct Arrangement {
     pub rows: usize,
     pub regions: usize,
-    pub plain: usize,
 }
 
 pub fn prepare(
@@ -23,19 +22,14 @@ pub fn prepare(
     patterns: &mut [u64],
     order: &mut [usize],
     upto: &mut [usize],
-    turns: &mut [u8],
+    kinds: &mut [u8],
 ) -> Arrangement
     requires words_value { (check_of words.now ≡ Accepted shape) × T (only_sets (claim_of words.now).quantifiers) × Roomy shape patterns.old }
-    requires nodes_in_bounds { (shape.nodes ≤ length order.old) × (2 ^ shape.sets < length upto.old) × (2 ^ shape.sets ≤ length turns.old) }
-    ensures { Arranged (claim_of words.now) patterns.new order.new upto.new turns.new result.rows result.plain result.regions }
+    requires nodes_in_bounds { (shape.nodes ≤ length order.old) × (2 ^ shape.sets < length upto.old) × (2 ^ shape.sets ≤ length kinds.old) }
+    ensures { Arranged (claim_of words.now) patterns.new order.new upto.new kinds.new result.rows result.regions }
 {
     matrix::patterns::prepare(words, shape, patterns);
     let rows = matrix::order::arrange(words, shape, patterns, order, upto);
-    let regions = crate::turns::fill_turns(words, shape, turns);
-    let plain = crate::turns::plain_splits(turns, regions);
-    Arrangement {
-        rows,
-        regions,
-        plain,
-    }
+    let regions = crate::kinds::fill_kinds(words, shape, kinds);
+    Arrangement { rows, regions }
 }

@@ -4,15 +4,16 @@ ghost use Rattle.checker.specs.Words.{claim_of};
 ghost use Rattle.checker.specs.Sorts.{sets};
 ghost use Rattle.matrix.specs.Order.{Has};
 ghost use Rattle.matrix.specs.Known.{Counts, Known, Settled, Kept};
-ghost use Rattle.decider.specs.Rule.{rule};
-ghost use Rattle.decider.specs.Plan.{level_at, plan_of};
+ghost use Rattle.decider.specs.Rule.{split, rule};
+ghost use Rattle.decider.specs.Plan.{plan_of};
 ghost use Rattle.decider.specs.Answer.{reply, halts};
-ghost use Rattle.decider.specs.Standing.{Total, finals, Inside, Prepared, Guided, Arranged, Startable};
+ghost use Rattle.decider.specs.Standing.{Total, finals, Passed, Prepared, Guided, Arranged, Startable};
 
 use crate::allowance::{Allowance, Reply};
-use crate::pass::{children, inside_next, pass, span_at};
 use crate::prepare::Arrangement;
-use crate::turns::{is_exists, stays};
+
+// The kind of a quantifier "exists set".
+const EXISTS: u8 = 3;
 
 // A run of tries ends with this reply to one of them: the allowance is spent, or an exists has found a true, or a for-all a false.
 fn ends(some: bool, x: Reply) -> bool
@@ -23,6 +24,32 @@ fn ends(some: bool, x: Reply) -> bool
     } else {
         true
     }
+}
+
+// Region h is split, and k of its ports are inside: 2 h is outside, 2 h + 1 inside.
+fn children(counts: &mut [u32], h: usize, k: u32)
+    requires h_nonzero { (0 < h) × (h + h + 2 ≤ length counts.old) }
+    requires k_bound { k ≤ get_or counts.old h 0 }
+    ensures { take (h + 1 + (h + 1)) counts.new ≡ split (take (h + h) counts.old) h k }
+{
+    counts[h + h] = counts[h] - k;
+    counts[h + h + 1] = k;
+}
+
+// Passes over the regions from h on that have no ports: the only split of such a region is into two without ports. The first region left.
+pub fn pass(counts: &mut [u32], regions: usize, h: usize) -> usize
+    requires { (0 < h) × (h ≤ regions) × (regions + regions ≤ length counts.old) }
+    ensures { Passed regions h counts.old result counts.new }
+{
+    let mut here = h;
+    while here < regions {
+        if 0 < counts[here] {
+            return here;
+        }
+        children(counts, here, 0);
+        here += 1;
+    }
+    here
 }
 
 // One step: an evaluation of the matrix, paid for. The nodes before place `known` of the order stand already.
@@ -121,29 +148,27 @@ fn advance(
     to
 }
 
-// Split h and all after it, the inside counts of each region tried from the least up. The nodes before place `known` of the order stand already.
+// Split h and all after it, the inside count of each region tried from 0 up. The nodes before place `known` of the order stand already.
 pub fn splits(
     counts: &mut [u32],
     values: &mut [i32],
     words: &[i32],
     patterns: &[u64],
     order: &[usize],
-    turns: &[u8],
+    kinds: &[u8],
     upto: &[usize],
     rows: usize,
     root: usize,
     size: u32,
     regions: usize,
-    plain: usize,
     known: usize,
     h: usize,
-    inside: bool,
     a: Allowance,
 ) -> Reply
     requires prepared { Prepared words.now patterns.now order.now (length values.old) size rows }
     requires has { Has order.now rows root × (root ≡ (claim_of words.now).root) }
-    requires guided { Guided (claim_of words.now) turns.now upto.now patterns.now order.now (length counts.old) rows plain regions }
-    requires h_nonzero { (0 < h) × (h < regions) × Total counts.old h size × Inside (level_at (claim_of words.now).quantifiers 1 h) (take (h + h) counts.old) inside }
+    requires guided { Guided (claim_of words.now) kinds.now upto.now patterns.now order.now (length counts.old) rows regions }
+    requires h_nonzero { (0 < h) × (h < regions) × Total counts.old h size }
     requires known_le_rows { (known ≤ rows) × Known (claim_of words.now) size (finals regions h counts.old) order.now known values.old }
     requires taken_bound { a.left + a.taken < 2 ^ 64 }
     ensures value { result ≡ reply (rule (plan_of (claim_of words.now)) (regions - h) h (take (h + h) counts.old)) a }
@@ -154,45 +179,21 @@ pub fn splits(
     let next = advance(
         words, patterns, order, upto, size, counts, values, regions, h, known,
     );
-    let turn = turns[h];
-    let some = is_exists(turn);
-    let tried = span_at(counts[h], turn, inside);
-    let stay = stays(turn);
-    let last = tried.last;
+    let some = kinds[h] == EXISTS;
+    let whole = counts[h];
     let mut rest = a;
-    let mut k = tried.from;
-    while k <= last {
+    let mut k = 0;
+    while k <= whole {
         children(counts, h, k);
-        let below = pass(
-            counts,
-            turns,
-            regions,
-            plain,
-            h + 1,
-            inside_next(stay, inside, k),
-        );
-        let x = if below.split == regions {
+        let below = pass(counts, regions, h + 1);
+        let x = if below == regions {
             step(
                 words, patterns, order, rows, root, size, regions, counts, values, next, rest,
             )
         } else {
             splits(
-                counts,
-                values,
-                words,
-                patterns,
-                order,
-                turns,
-                upto,
-                rows,
-                root,
-                size,
-                regions,
-                plain,
-                next,
-                below.split,
-                below.inside,
-                rest,
+                counts, values, words, patterns, order, kinds, upto, rows, root, size, regions,
+                next, below, rest,
             )
         };
         if ends(some, x) {
@@ -214,46 +215,29 @@ pub fn search(
     patterns: &[u64],
     order: &[usize],
     upto: &[usize],
-    turns: &[u8],
+    kinds: &[u8],
     arrangement: Arrangement,
     root: usize,
     size: u32,
     h: usize,
-    inside: bool,
     counts: &mut [u32],
     values: &mut [i32],
     a: Allowance,
 ) -> Reply
-    requires arranged { Arranged (claim_of words.now) patterns.now order.now upto.now turns.now arrangement.rows arrangement.plain arrangement.regions }
-    requires startable { Startable words.now root size arrangement.regions h (length values.old) inside counts.old }
+    requires arranged { Arranged (claim_of words.now) patterns.now order.now upto.now kinds.now arrangement.rows arrangement.regions }
+    requires startable { Startable words.now root size arrangement.regions h (length values.old) counts.old }
     requires taken_bound { a.left + a.taken < 2 ^ 64 }
     ensures { result ≡ reply (rule (plan_of (claim_of words.now)) (arrangement.regions - h) h (take (h + h) counts.old)) a }
 {
     let rows = arrangement.rows;
     let regions = arrangement.regions;
-    let plain = arrangement.plain;
-    let first = pass(counts, turns, regions, plain, h, inside);
-    if first.split == regions {
+    let first = pass(counts, regions, h);
+    if first == regions {
         return step(
             words, patterns, order, rows, root, size, regions, counts, values, 0, a,
         );
     }
     splits(
-        counts,
-        values,
-        words,
-        patterns,
-        order,
-        turns,
-        upto,
-        rows,
-        root,
-        size,
-        regions,
-        plain,
-        0,
-        first.split,
-        first.inside,
-        a,
+        counts, values, words, patterns, order, kinds, upto, rows, root, size, regions, 0, first, a,
     )
 }

@@ -1,7 +1,7 @@
 -- Laws of what the quantifiers give, as the code keeps it: one quantifier further, one entry of a plan, and how large the numbers get.
 -- Assumes nothing.
 use mathlib.Core.Path.{◌≡◌, refl, sym, ap, ap₂, ◌∙◌}
-use mathlib.Core.Bool.{Bool, true, false, false≢true}
+use mathlib.Core.Bool.{Bool, true, false}
 use mathlib.Core.List.{List, [], ◌∷◌, ◌++◌}
 use Prim.Native.Nat.{ℕ, zero, suc, ◌+◌, ◌*◌, ◌-◌, ◌^◌, ◌%◌, ◌≤◌, ◌<◌}
 use native.Mathlib.Nat.{le_refl, add-zero, zero-add, one-mul, pow-le-pow_right}
@@ -9,10 +9,12 @@ use native.Mathlib.Numerals.{add-one, add-two}
 use native.Mathlib.Omega.{arith}
 use borrow.Author.Count.{below_more}
 use lib.Dec.{lit<}
+use lib.IntN.{pos}
 use lib.ListN.{length, get_or, take, drop, set, length-set, length-take, take-append-drop}
 use lib.Pow.{shl_exact}
 use lib.Seq.{sets, length-sets, get_or-set_same, get_or-set_other, drop-set-lt, take-length}
-use Rattle.checker.specs.Claim.{maxc, num_var, Quantifier, intQ, set_q, countQ}
+use Rattle.checker.specs.Claim.{maxc, num_var, Quantifier, intQ, setQ, countQ}
+use Rattle.checker.specs.Kinds.{number, quantifier_of}
 use Rattle.checker.specs.Sorts as Sorts
 use Rattle.checker.specs.Sorts.{is_set_q}
 use Rattle.checker.specs.Check.{max_quantifiers, max_sets}
@@ -39,7 +41,7 @@ pub sets-append : (ps qs : List Quantifier) → Sorts.sets (ps ++ qs) ≡ Sorts.
 unfolding Sorts.sets
 sets-append [] qs = omega arith
 sets-append (intQ some ∷ ps) qs = sets-append ps qs
-sets-append (set_q one some ∷ ps) qs = omega (arith, sets-append ps qs)
+sets-append (setQ some ∷ ps) qs = omega (arith, sets-append ps qs)
 sets-append (countQ some ∷ ps) qs = sets-append ps qs
 
 pub sets_front : (j : ℕ) (qs : List Quantifier) → Sorts.sets (take j qs) + Sorts.sets (drop j qs) ≡ Sorts.sets qs
@@ -76,10 +78,10 @@ unfolding inside_all
 inside_one qs q = inside-append start qs (q ∷ [])
 
 module _ {qs : List Quantifier} {f : code.Frame} (s : Says qs f) where
-  pub says_set : (one some : Bool) (next : ℕ) → next ≡ f.next + 2 * 2 ^ f.level
-      → Says (qs ++ set_q one some ∷ []) (record { next = next; level = f.level + 1; first = f.next })
+  pub says_set : (some : Bool) (next : ℕ) → next ≡ f.next + 2 * 2 ^ f.level
+      → Says (qs ++ setQ some ∷ []) (record { next = next; level = f.level + 1; first = f.next })
   unfolding with_set Sorts.sets
-  says_set one some next e =
+  says_set some next e =
       record {
         next = rw inside_one (omega (arith, s.next, dbl_is (inside_all start qs).regions, regions_are qs, ap (λ k. 2 ^ k) s.level));
         level = rw sets-append (omega (arith, s.level));
@@ -94,7 +96,7 @@ module _ {qs : List Quantifier} {f : code.Frame} (s : Says qs f) where
         level = rw sets-append (omega (arith, s.level));
         first = rw inside_one s.first;
       }
-  says_number (set_q one some) e = let z : ◌≡◌ {A = ℕ} 0 1 = cc in absurd (omega arith)
+  says_number (setQ some) e = let z : ◌≡◌ {A = ℕ} 0 1 = cc in absurd (omega arith)
   says_number (countQ some) e =
       record {
         next = rw inside_one (omega (arith, s.next));
@@ -112,7 +114,7 @@ place_from : (qs : List Quantifier) (f : Frame) (e : ℕ) → f.place ≡ place_
 unfolding inside_all with_number with_set Sorts.sets
 place_from [] f e h = rw add-zero h
 place_from (intQ some ∷ qs) f e h = place_from qs (with_number f) e h
-place_from (set_q one some ∷ qs) f e h =
+place_from (setQ some ∷ qs) f e h =
     let more : suc e + Sorts.sets qs ≡ e + suc (Sorts.sets qs) = omega arith in
     place_from qs (with_set f) (suc e) refl ∙ ap (λ k. place_at k (first_of (inside_all (with_set f) qs).place)) more
 place_from (countQ some ∷ qs) f e h = place_from qs (with_number f) e h
@@ -126,7 +128,7 @@ first_low : (qs : List Quantifier) (f : Frame) → first_of f.place ≤ f.next �
 unfolding inside_all with_number with_set
 first_low [] f h = h
 first_low (intQ some ∷ qs) f h = first_low qs (with_number f) (omega arith)
-first_low (set_q one some ∷ qs) f h = first_low qs (with_set f) (omega arith)
+first_low (setQ some ∷ qs) f h = first_low qs (with_set f) (omega arith)
 first_low (countQ some ∷ qs) f h = first_low qs (with_number f) (omega arith)
 
 pub first_small : {qs : List Quantifier} {f : code.Frame} → Says qs f → length qs ≤ max_quantifiers → Sorts.sets qs ≤ max_sets → f.first ≤ max_quantifiers + 2 * pattern_bits
@@ -137,11 +139,26 @@ first_small {qs} {f} s l m = omega (arith, s.first, first_low qs start (omega ar
 pub says_all : {plan : List ℕ} {qs : List Quantifier} {n : ℕ} {f : code.Frame} → Planned plan qs → n ≡ length qs → f ≡ frame_at plan n → Says qs f
 says_all {plan} {qs} {n} {f} p e h = rw (h, e) (rw (take-length qs) at (p.says (length qs) (le_refl (length qs))))
 
--- a quantifier that binds sets
-pub set_is : (q : Quantifier) → is_set_q q ≡ true → (one some : Bool) × (q ≡ set_q one some)
-set_is (intQ some) e = absurd (false≢true e)
-set_is (set_q one some) e = (one, some, refl)
-set_is (countQ some) e = absurd (false≢true e)
+-- kinds 3 and 4 bind sets
+pub kind_set : (k : ℕ) → 3 ≤ k → k < 5 → (some : Bool) × (quantifier_of (pos k) ≡ setQ some)
+unfolding quantifier_of number
+kind_set zero l h = absurd (omega arith)
+kind_set (suc zero) l h = absurd (omega arith)
+kind_set (suc (suc zero)) l h = absurd (omega arith)
+kind_set (suc (suc (suc zero))) l h = (true, refl)
+kind_set (suc (suc (suc (suc zero)))) l h = (false, refl)
+kind_set (suc (suc (suc (suc (suc k))))) l h = absurd (omega arith)
+
+pub kind_number : (k : ℕ) → (3 ≤ k → k < 5 → ⊥) → is_set_q (quantifier_of (pos k)) ≡ false
+unfolding quantifier_of number
+kind_number zero n = refl
+kind_number (suc zero) n = refl
+kind_number (suc (suc zero)) n = refl
+kind_number (suc (suc (suc zero))) n = absurd (n (omega arith) (omega arith))
+kind_number (suc (suc (suc (suc zero)))) n = absurd (n (omega arith) (omega arith))
+kind_number (suc (suc (suc (suc (suc zero))))) n = refl
+kind_number (suc (suc (suc (suc (suc (suc zero)))))) n = refl
+kind_number (suc (suc (suc (suc (suc (suc (suc k))))))) n = refl
 
 -- ---- the entries of a plan
 

@@ -21,7 +21,7 @@ use Rattle.region.specs.Pattern.{room_in, regions_from}
 use Rattle.region.proofs.Covered.{covered_within}
 use Rattle.region.proofs.Pattern.{covered_cut}
 use Rattle.emission.specs.declared.Frame as code
-use Rattle.emission.specs.Emission.{Frame, none, start, inside_all, card_run, amount_run, both_run, run_of}
+use Rattle.emission.specs.Emission.{Frame, none, start, inside_all, card_run, empty_run, both_run, run_of}
 use Rattle.emission.specs.Plan.{place_in, frame_at, Says}
 use Rattle.emission.specs.Runs.{frame_of, emitted_to, run_at, Patterned, Standing, Ready, Single, without}
 use Rattle.emission.proofs.Steps.{number_at}
@@ -302,7 +302,7 @@ module _ {ws : List ℤ} {shape : Shape} {plan : List ℕ} {i : ℕ} (ready : Re
         let t = fitting ready (subset a b) (of_its_kind ready 24 e) in
         (set_child ready patterned a t.0, set_child ready patterned b t.1)
 
-    pub run_subset : word_at ws (3 * i) ≡ 24 → run_at (claim_of ws) i ≡ amount_run 0 (place_in f) at (without patterns a b)
+    pub run_subset : word_at ws (3 * i) ≡ 24 → run_at (claim_of ws) i ≡ empty_run (place_in f) at (without patterns a b)
     unfolding run_of word_at
     run_subset e =
         let t = subset_children e in

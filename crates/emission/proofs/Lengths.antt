@@ -1,20 +1,20 @@
 -- How many regions and quantifiers there are, and how long the emission's runs are.
 -- Assumes nothing.
-use mathlib.Core.Path.{◌≡◌, refl, sym, ◌∙◌, ap, ap₂}
-use mathlib.Core.Bool.{Bool, true, false}
+use mathlib.Core.Path.{◌≡◌, refl, sym, ◌∙◌, ap}
+use mathlib.Core.Bool.{true, false}
 use mathlib.Core.List.{List, [], ◌∷◌}
-use Prim.Native.Nat.{ℕ, zero, suc, ◌+◌, ◌*◌, ◌-◌, ◌^◌, ◌%◌, ◌<◌, ◌≤◌}
+use Prim.Native.Nat.{ℕ, zero, suc, ◌+◌, ◌*◌, ◌-◌, ◌^◌, ◌<◌, ◌≤◌}
 use native.Mathlib.Nat.{add-zero, pow-succ', mul_comm, mul_assoc, mul-one}
 use native.Mathlib.Omega.{arith}
 use lib.ListN.{length, length-append, replicate, length-replicate}
-use Rattle.checker.specs.Claim.{Node, Quantifier, set_var, empty, whole, union, inter, compl, num_var, const, maxc, sum, diff, multiple, card, equal, less, divided, setEqual, subset, conj, disj, neg, unknown, intQ, set_q, countQ}
+use Rattle.checker.specs.Claim.{Node, Quantifier, set_var, empty, whole, union, inter, compl, num_var, const, maxc, sum, diff, multiple, card, equal, less, divided, setEqual, subset, conj, disj, neg, unknown, intQ, setQ, countQ}
 use Rattle.checker.specs.Sorts.{sets}
 use Rattle.checker.specs.Meaning.{Set}
-use Rattle.region.specs.Regions.{odd, dbl, minus, covered}
+use Rattle.region.specs.Regions.{dbl, minus, covered}
 use Rattle.region.proofs.Regions.{dbl_is}
 use Rattle.region.proofs.Covered.{covered_le, covered_apart}
-use Rattle.emission.specs.Emission.{Place, Frame, with_number, with_set, inside_all, becomes, emit_quantifiers, sum_run, card_run, amount_run, both_run, run_of, five, further_fives, constraint, Body, split_run, port_run, constraint_run, join_some, join_all, close, counts}
-use Rattle.emission.specs.Sizes.{all_sets, ported, port_nodes}
+use Rattle.emission.specs.Emission.{Place, Frame, with_number, with_set, inside_all, becomes, emit_quantifiers, sum_run, card_run, empty_run, both_run, run_of, five, further_fives, constraint, Body, split_run, join_some, join_all, close, counts}
+use Rattle.emission.specs.Sizes.{all_sets}
 
 -- ---- quantifiers
 
@@ -27,7 +27,7 @@ pub regions_power : (qs : List Quantifier) (f : Frame) → (inside_all f qs).reg
 unfolding inside_all sets with_number with_set
 regions_power [] f = sym (mul-one f.regions)
 regions_power (intQ some ∷ qs) f = regions_power qs (with_number f)
-regions_power (set_q one some ∷ qs) f = twice_power f.regions (sets qs) (regions_power qs (with_set f))
+regions_power (setQ some ∷ qs) f = twice_power f.regions (sets qs) (regions_power qs (with_set f))
 regions_power (countQ some ∷ qs) f = regions_power qs (with_number f)
 
 -- the number of emitted quantifiers
@@ -35,7 +35,7 @@ pub next_is : (qs : List Quantifier) (f : Frame) → (inside_all f qs).next ≡ 
 unfolding inside_all emit_quantifiers becomes with_number with_set
 next_is [] f = sym (add-zero f.next)
 next_is (intQ some ∷ qs) f = omega (arith, next_is qs (with_number f))
-next_is (set_q one some ∷ qs) f =
+next_is (setQ some ∷ qs) f =
     let row = replicate (dbl f.regions) (countQ some) in
     omega (arith, next_is qs (with_set f), length-append row (emit_quantifiers (with_set f) qs), length-replicate (dbl f.regions) (countQ some))
 next_is (countQ some ∷ qs) f = omega (arith, next_is qs (with_number f))
@@ -46,7 +46,7 @@ pub quantifiers-length : (qs : List Quantifier) (f : Frame)
 unfolding inside_all emit_quantifiers becomes sets with_number with_set
 quantifiers-length [] f = omega arith
 quantifiers-length (intQ some ∷ qs) f = omega (arith, quantifiers-length qs (with_number f))
-quantifiers-length (set_q one some ∷ qs) f =
+quantifiers-length (setQ some ∷ qs) f =
     let row = replicate (dbl f.regions) (countQ some) in
     omega (
       arith,
@@ -74,13 +74,13 @@ unfolding card_run
 card-length p [] k = refl
 card-length p (r ∷ rs) k = omega (arith, sum_length p rs k)
 
-pub amount_length : (c : ℕ) (p : Place) (rs : List ℕ) (k : ℕ) → length (amount_run c p k rs) ≡ card_length rs + 2
-unfolding amount_run
-amount_length c p rs k = simp length-append (omega (arith, card-length p rs k))
+pub empty_length : (p : Place) (rs : List ℕ) (k : ℕ) → length (empty_run p k rs) ≡ card_length rs + 2
+unfolding empty_run
+empty_length p rs k = simp length-append (omega (arith, card-length p rs k))
 
 pub both-length : (p : Place) (rs ss : List ℕ) (k : ℕ) → length (both_run p k rs ss) ≡ card_length rs + card_length ss + 5
 unfolding both_run
-both-length p rs ss k = simp length-append (omega (arith, amount_length 0 p rs k, amount_length 0 p ss (k + length (amount_run 0 p k rs))))
+both-length p rs ss k = simp length-append (omega (arith, empty_length p rs k, empty_length p ss (k + length (empty_run p k rs))))
 
 card_short : (rs : List ℕ) (n : ℕ) → 0 < n → length rs ≤ n → card_length rs ≤ 2 * n
 card_short [] n h l = omega arith
@@ -117,7 +117,7 @@ run_short f k st pat (setEqual a b) h =
     omega (arith, both-length f.place rs ss k, both_short rs ss f.regions h (covered_apart f.regions 0 (pat a) (pat b)))
 run_short f k st pat (subset a b) h =
     let rs = covered 0 f.regions (minus (pat a) (pat b)) in
-    omega (arith, amount_length 0 f.place rs k, card_short rs f.regions h (covered_le f.regions 0 (minus (pat a) (pat b))))
+    omega (arith, empty_length f.place rs k, card_short rs f.regions h (covered_le f.regions 0 (minus (pat a) (pat b))))
 run_short f k st pat (conj a b) h = omega arith
 run_short f k st pat (disj a b) h = omega arith
 run_short f k st pat (neg a) h = omega arith
@@ -149,79 +149,17 @@ pub all-length : (run : List Node) (b : Body) → length (join_all run b).nodes 
 unfolding join_all
 all-length run b = simp length-append (omega arith)
 
--- of 2 n regions n are odd
-inside_many : (n i : ℕ) → i % 2 ≡ 0 → length (covered i (dbl n) odd) ≡ n
-unfolding covered
-inside_many zero i e = refl
-inside_many (suc n) i e =
-    let next : suc i % 2 ≡ 1 = omega arith in
-    let after : suc (suc i) % 2 ≡ 0 = omega arith in
-    rw (e, next) (ap suc (inside_many n (suc (suc i)) after))
-
-pub card_many : (rs : List ℕ) → 0 < length rs → card_length rs + 1 ≡ 2 * length rs
-card_many [] h = absurd (omega arith)
-card_many (r ∷ rs) h = omega arith
-
--- the odd regions one by one
-odds_first : (m i : ℕ) → i % 2 ≡ 0 → covered i (dbl (suc m)) odd ≡ suc i ∷ covered (suc (suc i)) (dbl m) odd
-unfolding covered
-odds_first m i a = let next : suc i % 2 ≡ 1 = omega arith in rw (a, next)
-
-pub odds_next : (n r : ℕ) → r < n → covered (2 * r) (dbl (n - r)) odd ≡ (2 * r + 1) ∷ covered (2 * (r + 1)) (dbl (n - (r + 1))) odd
-odds_next n r h =
-    let e : n - r ≡ suc (n - (r + 1)) = omega arith in
-    ap (λ m. covered (2 * r) (dbl m) odd) e ∙ odds_first (n - (r + 1)) (2 * r) (omega arith)
-    ∙ ap₂ (λ x y. x ∷ covered y (dbl (n - (r + 1))) odd) (omega arith) (omega arith)
-
-pub odds_start : (n : ℕ) → 0 < n → covered 0 (dbl n) odd ≡ 1 ∷ covered 2 (dbl (n - 1)) odd
-odds_start n h =
-    let e : n ≡ suc (n - 1) = omega arith in
-    ap (λ m. covered 0 (dbl m) odd) e ∙ odds_first (n - 1) 0 refl
-
-pub odds_many : (n : ℕ) → length (covered 0 (dbl n) odd) ≡ n
-odds_many n = inside_many n 0 refl
-
--- what is joined for single ports: 2 n + 2 nodes where n regions stand outside
-pub port-length : (f : Frame) (k : ℕ) → 0 < f.regions → length (port_run f k) ≡ length (split_run f k) + (2 * f.regions + 2)
-unfolding port_run amount_run
-port-length f k h =
-    let rs = covered 0 (dbl f.regions) odd in
-    let many : length rs ≡ f.regions = inside_many f.regions 0 refl in
-    simp length-append (omega (arith, card-length (counts f.next) rs (k + length (split_run f k)), card_many rs (omega arith), many))
-
-pub run_length : (one : Bool) (f : Frame) (k : ℕ) → 0 < f.regions → length (constraint_run one f k) + 1 ≡ 6 * f.regions + ported one f.regions
-run_length false f k h = omega (arith, split-length f k h)
-run_length true f k h = omega (arith, split-length f k h, port-length f k h)
-
-pub port_nodes_lem : (one some : Bool) (n : ℕ) (qs : List Quantifier) → port_nodes n (set_q one some ∷ qs) ≡ ported one n + port_nodes (dbl n) qs
-unfolding port_nodes
-port_nodes_lem one some n qs = let e : n + n ≡ dbl n = omega (arith, dbl_is n) in rw e
-
 pub close-length : (qs : List Quantifier) (f : Frame) (b : Body) → 0 < f.regions
-    → length (close f qs b).nodes + 6 * f.regions ≡ length b.nodes + 6 * (inside_all f qs).regions + all_sets qs + port_nodes f.regions qs
-unfolding close inside_all all_sets port_nodes with_number with_set
+    → length (close f qs b).nodes + 6 * f.regions ≡ length b.nodes + 6 * (inside_all f qs).regions + all_sets qs
+unfolding close inside_all all_sets with_number with_set
 close-length [] f b h = omega arith
 close-length (intQ some ∷ qs) f b h = close-length qs (with_number f) b h
-close-length (set_q one true ∷ qs) f b h =
+close-length (setQ true ∷ qs) f b h =
     let inner = close (with_set f) qs b in
     let k = length inner.nodes in
-    omega (
-      arith,
-      close-length qs (with_set f) b (dbl_some f.regions h),
-      some-length (constraint_run one f k) inner,
-      run_length one f k h,
-      port_nodes_lem one true f.regions qs,
-      dbl_is f.regions,
-    )
-close-length (set_q one false ∷ qs) f b h =
+    omega (arith, close-length qs (with_set f) b (dbl_some f.regions h), some-length (split_run f k) inner, split-length f k h, dbl_is f.regions)
+close-length (setQ false ∷ qs) f b h =
     let inner = close (with_set f) qs b in
     let k = length inner.nodes in
-    omega (
-      arith,
-      close-length qs (with_set f) b (dbl_some f.regions h),
-      all-length (constraint_run one f k) inner,
-      run_length one f k h,
-      port_nodes_lem one false f.regions qs,
-      dbl_is f.regions,
-    )
+    omega (arith, close-length qs (with_set f) b (dbl_some f.regions h), all-length (split_run f k) inner, split-length f k h, dbl_is f.regions)
 close-length (countQ some ∷ qs) f b h = close-length qs (with_number f) b h

@@ -7,7 +7,7 @@ use native.Mathlib.Omega.{arith}
 use lib.IntN.{pos}
 use lib.ListN.{length}
 use Rattle.checker.specs.Claim.{const, sum, equal, conj}
-use Rattle.emission.specs.Emission.{Place, region_node, sum_run, card_run, amount_run, both_run}
+use Rattle.emission.specs.Emission.{Place, region_node, sum_run, card_run, empty_run, both_run}
 use Rattle.emission.proofs.Lengths.{card-length, card_length}
 
 -- ---- a cardinality; `at` and `next` are the nodes before and after a part
@@ -49,14 +49,14 @@ unfolding card_run
 card_least p at [] = omega arith
 card_least p at (r ∷ rs) = omega arith
 
--- ---- that there are so many ports, and that two sets are equal
+-- ---- that there is none, and that two sets are equal
 
-pub amount_parts : (c : ℕ) (p : Place) (at next : ℕ) (rs : List ℕ) → next ≡ at + length (card_run p at rs)
-    → amount_run c p at rs ≡ card_run p at rs ++ (const (pos c) ∷ equal (next - 1) next ∷ [])
-unfolding amount_run
-amount_parts c p at next rs e = rw e
+pub empty_parts : (p : Place) (at none : ℕ) (rs : List ℕ) → none ≡ at + length (card_run p at rs)
+    → empty_run p at rs ≡ card_run p at rs ++ ((const (pos 0) ∷ []) ++ (equal (none - 1) none ∷ []))
+unfolding empty_run
+empty_parts p at none rs e = rw e
 
-pub both_parts : (p : Place) (at second join : ℕ) (rs ss : List ℕ) → second ≡ at + length (amount_run 0 p at rs) → join ≡ second + length (amount_run 0 p second ss)
-    → both_run p at rs ss ≡ amount_run 0 p at rs ++ (amount_run 0 p second ss ++ (conj (second - 1) (join - 1) ∷ []))
+pub both_parts : (p : Place) (at second join : ℕ) (rs ss : List ℕ) → second ≡ at + length (empty_run p at rs) → join ≡ second + length (empty_run p second ss)
+    → both_run p at rs ss ≡ empty_run p at rs ++ (empty_run p second ss ++ (conj (second - 1) (join - 1) ∷ []))
 unfolding both_run
-both_parts p at second join rs ss e f = rw (f, e) (append_assoc (amount_run 0 p at rs) (amount_run 0 p (at + length (amount_run 0 p at rs)) ss) _)
+both_parts p at second join rs ss e f = rw (f, e) (append_assoc (empty_run p at rs) (empty_run p (at + length (empty_run p at rs)) ss) _)

@@ -11,7 +11,7 @@ use lib.IntN.{ℤ}
 use lib.ListN.{get_or, take, drop}
 use Rattle.checker.specs.declared.Shape.{Shape}
 use Rattle.checker.specs.declared.Sort.TheVariants.{ASet, ATerm, AFormula, NoSort}
-use Rattle.checker.specs.Claim.{Node, set_var, empty, whole, union, inter, compl, Quantifier, intQ, set_q, countQ}
+use Rattle.checker.specs.Claim.{Node, set_var, empty, whole, union, inter, compl, Quantifier, intQ, setQ, countQ}
 use Rattle.checker.specs.Kinds.{within, sort_of}
 use Rattle.checker.specs.Words.{word_at, claim_of}
 use Rattle.checker.specs.Sorts as Sorts
@@ -59,7 +59,7 @@ all_cut false = refl
 one_more : (q : Quantifier) (qs : List Quantifier) → is_set_q q ≡ true → Sorts.sets (q ∷ qs) ≡ suc (Sorts.sets qs)
 unfolding Sorts.sets
 one_more (intQ some) qs e = let z : ◌≡◌ {A = ℕ} 0 1 = cc in absurd (omega arith)
-one_more (set_q one some) qs e = refl
+one_more (setQ some) qs e = refl
 one_more (countQ some) qs e = let z : ◌≡◌ {A = ℕ} 0 1 = cc in absurd (omega arith)
 
 -- the sets outside quantifier q, itself, and those inside it
@@ -75,7 +75,7 @@ sets_around qs q b =
 covers_bit : (q : Quantifier) (k r : ℕ) → is_set_q q ≡ true → cover_at q k r ≡ covers r k
 unfolding covers
 covers_bit (intQ some) k r e = let z : ◌≡◌ {A = ℕ} 0 1 = cc in absurd (omega arith)
-covers_bit (set_q one some) k r e = refl
+covers_bit (setQ some) k r e = refl
 covers_bit (countQ some) k r e = let z : ◌≡◌ {A = ℕ} 0 1 = cc in absurd (omega arith)
 
 bit_is : (qs : List Quantifier) (q k r : ℕ) → Binds true qs q → k ≡ Sorts.sets (drop (q + 1) qs) → get_or (inside_all start qs).covers q none r ≡ covers r k
@@ -169,9 +169,9 @@ module _ {ws : List ℤ} {shape : Shape} {plan patterns : List ℕ} {i : ℕ} (r
   variable_child e = fitting ready (set_var a) (of_its_kind ready 1 e)
 
   -- how many sets are outside the variable's quantifier, noted in the plan
-  pub level_at_lem : {f : code.Frame} {q : ℕ} → word_at ws (3 * i) ≡ 1 → q ≡ a → f ≡ frame_at plan q
+  pub level_at : {f : code.Frame} {q : ℕ} → word_at ws (3 * i) ≡ 1 → q ≡ a → f ≡ frame_at plan q
       → Sorts.sets (claim_of ws).quantifiers ≡ f.level + suc (Sorts.sets (drop (a + 1) (claim_of ws).quantifiers))
-  level_at_lem {f} {q} e h g =
+  level_at {f} {q} e h g =
       let bound = variable_child e in
       let level : f.level ≡ Sorts.sets (take a (claim_of ws).quantifiers) = rw (g, h) (ready.planned.says a (omega (arith, bound.0))).level in
       omega (arith, level, sets_around (claim_of ws).quantifiers a bound)

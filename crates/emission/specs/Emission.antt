@@ -1,7 +1,7 @@
 -- The emission (01, "The emission"): the counting claim that a claim is reduced to, node for node.
 -- Assumes nothing.
-use Rattle.std.specs.Prelude.{Bool, true, false, not, ◌&&◌, ◌||◌, List, [], ◌∷◌, ◌++◌, map, ℕ, zero, suc, ◌+◌, ◌*◌, ◌-◌, pos, length, get_or, replicate}
-use Rattle.checker.specs.Claim.{Node, set_var, empty, whole, union, inter, compl, num_var, const, maxc, sum, diff, multiple, card, equal, less, divided, setEqual, subset, conj, disj, neg, unknown, Quantifier, intQ, set_q, countQ, Claim}
+use Rattle.std.specs.Prelude.{true, false, not, ◌&&◌, ◌||◌, List, [], ◌∷◌, ◌++◌, map, ℕ, zero, suc, ◌+◌, ◌*◌, ◌-◌, pos, length, get_or, replicate}
+use Rattle.checker.specs.Claim.{Node, set_var, empty, whole, union, inter, compl, num_var, const, maxc, sum, diff, multiple, card, equal, less, divided, setEqual, subset, conj, disj, neg, unknown, Quantifier, intQ, setQ, countQ, Claim}
 use Rattle.checker.specs.Meaning.{Set}
 use Rattle.region.specs.Regions.{half, odd, dbl, minus, covered}
 
@@ -58,7 +58,7 @@ with_set f =
 -- the frame inside one more quantifier, and inside all
 abbrev pub inside : Frame → Quantifier → Frame
 inside f (intQ some) = with_number f
-inside f (set_q one some) = with_set f
+inside f (setQ some) = with_set f
 inside f (countQ some) = with_number f
 
 unfoldable pub inside_all : Frame → List Quantifier → Frame
@@ -68,7 +68,7 @@ inside_all f (q ∷ qs) = inside_all (inside f q) qs
 -- what a quantifier becomes
 unfoldable pub becomes : Frame → Quantifier → List Quantifier
 becomes f (intQ some) = intQ some ∷ []
-becomes f (set_q one some) = replicate (dbl f.regions) (countQ some)
+becomes f (setQ some) = replicate (dbl f.regions) (countQ some)
 becomes f (countQ some) = countQ some ∷ []
 
 unfoldable pub emit_quantifiers : Frame → List Quantifier → List Quantifier
@@ -90,9 +90,9 @@ card_run p k (r ∷ rs) = region_node p r ∷ sum_run p k rs
 abbrev pub last : ℕ → List Node → ℕ
 last k run = k + length run - 1
 
--- The run that says that so many ports are in the regions rs: a cardinality run, a constant, an equal.
-unfoldable pub amount_run : ℕ → Place → ℕ → List ℕ → List Node
-amount_run amount p k rs = run ++ const (pos amount) ∷ equal (last k run) (k + length run) ∷ []
+-- the run that says that no port is in the regions rs
+unfoldable pub empty_run : Place → ℕ → List ℕ → List Node
+empty_run p k rs = run ++ const (pos 0) ∷ equal (last k run) (k + length run) ∷ []
   where
     run : List Node
     run = card_run p k rs
@@ -101,10 +101,10 @@ unfoldable pub both_run : Place → ℕ → List ℕ → List ℕ → List Node
 both_run p k rs ss = one ++ two ++ conj (last k one) (last (k + length one) two) ∷ []
   where
     one : List Node
-    one = amount_run 0 p k rs
+    one = empty_run p k rs
 
     two : List Node
-    two = amount_run 0 p (k + length one) ss
+    two = empty_run p (k + length one) ss
 
 -- The run of a node; `new a` is the node that stands for node a, and `pat a` what set node a covers.
 unfoldable pub run_of : Frame → ℕ → (ℕ → ℕ) → (ℕ → Set) → Node → List Node
@@ -126,7 +126,7 @@ run_of f k new pat (less a b) = less (new a) (new b) ∷ []
 run_of f k new pat (divided c b) = divided c (new b) ∷ []
 run_of f k new pat (setEqual a b) =
     both_run f.place k (covered 0 f.regions (minus (pat a) (pat b))) (covered 0 f.regions (minus (pat b) (pat a)))
-run_of f k new pat (subset a b) = amount_run 0 f.place k (covered 0 f.regions (minus (pat a) (pat b)))
+run_of f k new pat (subset a b) = empty_run f.place k (covered 0 f.regions (minus (pat a) (pat b)))
 run_of f k new pat (conj a b) = conj (new a) (new b) ∷ []
 run_of f k new pat (disj a b) = disj (new a) (new b) ∷ []
 run_of f k new pat (neg a) = neg (new a) ∷ []
@@ -206,21 +206,6 @@ pub record Body : Type 0 where
 unfoldable pub split_run : Frame → ℕ → List Node
 split_run f k = constraint f.place (counts f.next) k f.regions
 
--- The constraint of a quantifier over single ports: that of a set and, joined last, that the inside parts have one port together.
-unfoldable pub port_run : Frame → ℕ → List Node
-port_run f k = run ++ ones ++ conj (last k run) (last (k + length run) ones) ∷ []
-  where
-    run : List Node
-    run = split_run f k
-
-    ones : List Node
-    ones = amount_run 1 (counts f.next) (k + length run) (covered 0 (dbl f.regions) odd)
-
--- that of a quantifier over sets, by whether it is over single ports
-abbrev pub constraint_run : Bool → Frame → ℕ → List Node
-constraint_run false f k = split_run f k
-constraint_run true f k = port_run f k
-
 -- exists: and(constraint, body); for all: not(constraint), or(that, body)
 unfoldable pub join_some : List Node → Body → Body
 join_some run b = record { nodes = nodes ++ conj (last 0 nodes) b.root ∷ []; root = length nodes }
@@ -236,8 +221,8 @@ join_all run b = record { nodes = nodes ++ neg (last 0 nodes) ∷ disj (length n
 
 abbrev pub join : Frame → Quantifier → Body → Body
 join f (intQ some) b = b
-join f (set_q one true) b = join_some (constraint_run one f (length b.nodes)) b
-join f (set_q one false) b = join_all (constraint_run one f (length b.nodes)) b
+join f (setQ true) b = join_some (split_run f (length b.nodes)) b
+join f (setQ false) b = join_all (split_run f (length b.nodes)) b
 join f (countQ some) b = b
 
 -- the constraints of the quantifiers from the innermost to the outermost

@@ -2,7 +2,7 @@
 ghost use Rattle.std.specs.Prelude.{◌≡◌, List, ℕ, ◌+◌, ◌-◌, ◌*◌, ◌≤◌, ◌<◌, length};
 ghost use Rattle.checker.specs.Words.{claim_of};
 ghost use Rattle.region.specs.Pattern.{pattern_bits, entries};
-ghost use Rattle.emission.specs.Emission.{Place, card_run, amount_run};
+ghost use Rattle.emission.specs.Emission.{Place, card_run, empty_run};
 ghost use Rattle.emission.specs.Runs.{run_at, Patterned, Ready, without, Spared};
 
 use crate::kinds::{CARDINALITY, COMPLEMENT, SET_EQUAL, SUBSET};
@@ -22,7 +22,7 @@ fn card_length(n: usize) -> usize
 // Of the run that says that entry a is within entry b. Entry i takes the difference.
 fn within_length(patterns: &mut [u64], i: usize, a: usize, b: usize) -> usize
     requires { (i < entries patterns.old) × (a < entries patterns.old) × (b < entries patterns.old) }
-    ensures upper_bound { ((p : Place) (at : ℕ) → result ≡ length (amount_run 0 p at (without patterns.old a b))) × (result ≤ 2 * pattern_bits + 1) }
+    ensures upper_bound { ((p : Place) (at : ℕ) → result ≡ length (empty_run p at (without patterns.old a b))) × (result ≤ 2 * pattern_bits + 1) }
     ensures spared { Spared patterns.old i patterns.new }
 {
     region::put_difference(patterns, i, a, b);

@@ -1,4 +1,4 @@
-// Kinds of nodes by name.
+// Kinds by name: of nodes, and of the quantifiers that bind sets.
 pub const SET: usize = 1;
 
 pub const EMPTY: usize = 2;
@@ -36,3 +36,7 @@ pub const AND: usize = 25;
 pub const OR: usize = 26;
 
 pub const NOT: usize = 27;
+
+pub const SOME_SET: usize = 3;
+
+pub const ALL_SETS: usize = 4;

@@ -4,7 +4,7 @@ pub mod kinds; // kinds by name
 pub mod nodes; // the runs of all nodes
 mod pattern; // the patterns of set nodes
 pub mod plan; // what the quantifiers give
-pub mod run; // the run of a node
+mod run; // the run of a node
 pub mod write; // single nodes
 
 // What a run of quantifiers gives to what is inside them: the number of the next emitted quantifier, how many of them bind sets,

@@ -9,7 +9,7 @@ ghost use Rattle.emission.specs.Plan.{Says, frame_at, Planned};
 ghost use Rattle.emission.specs.Write.{max_number};
 
 use crate::Frame;
-use checker::kinds::binds_set;
+use crate::kinds::{ALL_SETS, SOME_SET};
 use checker::{Checked, Shape};
 
 // The frame inside one more quantifier.
@@ -19,17 +19,17 @@ fn inside(frame: Frame, kind: usize) -> Frame
 {
     let next = frame.next;
     let level = frame.level;
-    if binds_set(kind) {
-        return Frame {
+    match kind {
+        SOME_SET | ALL_SETS => Frame {
             next: next + (2 << level),
             level: level + 1,
             first: next,
-        };
-    }
-    Frame {
-        next: next + 1,
-        level,
-        first: frame.first,
+        },
+        _ => Frame {
+            next: next + 1,
+            level,
+            first: frame.first,
+        },
     }
 }
 

@@ -1,10 +1,10 @@
 // The run of a node, written.
-ghost use Rattle.std.specs.Prelude.{◌≡◌, [], ◌∷◌, ◌+◌, ◌-◌, ◌≤◌, ◌<◌, pos, length};
-ghost use Rattle.checker.specs.Claim.{const, sum, equal};
+ghost use Rattle.std.specs.Prelude.{◌≡◌, [], ◌∷◌, ◌+◌, ◌-◌, ◌≤◌, ◌<◌, length};
+ghost use Rattle.checker.specs.Claim.{sum};
 ghost use Rattle.checker.specs.Words.{claim_of};
 ghost use Rattle.checker.specs.Check.{kind_in};
 ghost use Rattle.region.specs.Pattern.{pattern_bits, entries, regions_from};
-ghost use Rattle.emission.specs.Emission.{region_node, card_run, amount_run, both_run};
+ghost use Rattle.emission.specs.Emission.{region_node, card_run, empty_run, both_run};
 ghost use Rattle.emission.specs.Plan.{place_in};
 ghost use Rattle.emission.specs.Runs.{emitted_to, run_at, Patterned, Standing, Ready, Single, without, Spared};
 ghost use Rattle.emission.specs.Write.{max_number, Room, WroteNodes};
@@ -19,7 +19,7 @@ use crate::write::{put_node, put_region, put_words, word};
 use checker::Shape;
 
 // The count of region r, and its sum with the node before.
-pub fn put_summand(out: &mut [i32], at: usize, frame: Frame, r: usize) -> usize
+fn put_summand(out: &mut [i32], at: usize, frame: Frame, r: usize) -> usize
     requires { Room out.old at 2 × (1 ≤ at) × (frame.first + r ≤ max_number) }
     ensures { WroteNodes out.old at (region_node (place_in frame) r ∷ sum (at - 1) at ∷ []) out.new result }
 {
@@ -50,23 +50,15 @@ fn put_cardinality(patterns: &[u64], i: usize, frame: Frame, out: &mut [i32], at
     here
 }
 
-// That the node before is equal to `amount`.
-pub fn put_amount(out: &mut [i32], at: usize, amount: usize) -> usize
-    requires { Room out.old at 2 × (1 ≤ at) × (amount ≤ max_number) }
-    ensures { WroteNodes out.old at (const (pos amount) ∷ equal (at - 1) at ∷ []) out.new result }
-{
-    let equal = put_node(out, at, CONSTANT, amount, 0);
-    put_node(out, equal, EQUAL, at - 1, at)
-}
-
 // That no port is in the regions that entry i covers.
 fn put_emptiness(patterns: &[u64], i: usize, frame: Frame, out: &mut [i32], at: usize) -> usize
     requires i_bound { (i < entries patterns.now) × (frame.first + pattern_bits ≤ max_number) }
-    requires room { Room out.old at (length (amount_run 0 (place_in frame) at (regions_from patterns.now i 0))) }
-    ensures { WroteNodes out.old at (amount_run 0 (place_in frame) at (regions_from patterns.now i 0)) out.new result }
+    requires room { Room out.old at (length (empty_run (place_in frame) at (regions_from patterns.now i 0))) }
+    ensures { WroteNodes out.old at (empty_run (place_in frame) at (regions_from patterns.now i 0)) out.new result }
 {
     let zero = put_cardinality(patterns, i, frame, out, at);
-    put_amount(out, zero, 0)
+    let equal = put_node(out, zero, CONSTANT, 0, 0);
+    put_node(out, equal, EQUAL, zero - 1, zero)
 }
 
 // That every port of the set of entry a is in that of entry b. Entry i takes the difference.
@@ -80,8 +72,8 @@ fn put_within(
     at: usize,
 ) -> usize
     requires i_bound { (i < entries patterns.old) × (a < entries patterns.old) × (b < entries patterns.old) × (frame.first + pattern_bits ≤ max_number) }
-    requires room { Room out.old at (length (amount_run 0 (place_in frame) at (without patterns.old a b))) }
-    ensures wrote_nodes { WroteNodes out.old at (amount_run 0 (place_in frame) at (without patterns.old a b)) out.new result }
+    requires room { Room out.old at (length (empty_run (place_in frame) at (without patterns.old a b))) }
+    ensures wrote_nodes { WroteNodes out.old at (empty_run (place_in frame) at (without patterns.old a b)) out.new result }
     ensures spared { Spared patterns.old i patterns.new }
 {
     region::put_difference(patterns, i, a, b);

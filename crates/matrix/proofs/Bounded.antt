@@ -8,7 +8,7 @@ use native.Mathlib.Omega.{arith}
 use borrow.Author.Tests.{ltb-false}
 use lib.IntN.{pos, nat_abs}
 use lib.ListN.{length, get_or, length-append}
-use Rattle.checker.specs.Claim.{Node, set_var, empty, whole, union, inter, compl, num_var, const, maxc, sum, diff, multiple, card, equal, less, divided, setEqual, subset, conj, disj, neg, unknown, Quantifier, intQ, set_q, countQ, Claim}
+use Rattle.checker.specs.Claim.{Node, set_var, empty, whole, union, inter, compl, num_var, const, maxc, sum, diff, multiple, card, equal, less, divided, setEqual, subset, conj, disj, neg, unknown, Quantifier, intQ, setQ, countQ, Claim}
 use Rattle.checker.specs.Meaning.{Value, truth, as_num, num_at, value_of, values}
 use Rattle.checker.proofs.Search.{first_none}
 use Rattle.region.specs.Regions.{over, regions}
@@ -41,8 +41,8 @@ unfolding final_values num_at
 final_num [] q = refl
 final_num (intQ some ∷ qs) zero = refl
 final_num (intQ some ∷ qs) (suc q) = final_num qs q
-final_num (set_q one some ∷ qs) zero = refl
-final_num (set_q one some ∷ qs) (suc q) = final_num qs q
+final_num (setQ some ∷ qs) zero = refl
+final_num (setQ some ∷ qs) (suc q) = final_num qs q
 final_num (countQ some ∷ qs) zero = refl
 final_num (countQ some ∷ qs) (suc q) = final_num qs q
 

@@ -6,7 +6,7 @@ use native.Mathlib.Nat.{div-one}
 use native.Mathlib.Numerals.{add-one}
 use lib.IntN.{pos}
 use lib.Pow.{shr-shr}
-use Rattle.checker.specs.Claim.{Quantifier, intQ, set_q, countQ}
+use Rattle.checker.specs.Claim.{Quantifier, intQ, setQ, countQ}
 use Rattle.checker.specs.Sorts.{sets}
 use Rattle.checker.specs.Meaning.{Value, set, num, truth}
 use Rattle.region.specs.Regions.{half, odd}
@@ -17,7 +17,7 @@ use Rattle.matrix.specs.Final.{final_values}
 unfoldable pub grown : List Quantifier → List Value → List Value
 grown [] vs = vs
 grown (intQ some ∷ qs) vs = grown qs (vs ++ num (pos 0) ∷ [])
-grown (set_q one some ∷ qs) vs = grown qs (grow vs)
+grown (setQ some ∷ qs) vs = grown qs (grow vs)
 grown (countQ some ∷ qs) vs = grown qs (vs ++ num (pos 0) ∷ [])
 
 -- each region is split into 2 ^ m
@@ -53,7 +53,7 @@ pub grown_is : (qs : List Quantifier) (vs : List Value) → grown qs vs ≡ map 
 unfolding grown final_values sets
 grown_is [] vs = sym (append-nil (map (deep 0) vs) ∙ deep_none vs)
 grown_is (intQ some ∷ qs) vs = grown_is qs (vs ++ num (pos 0) ∷ []) ∙ with_number qs vs
-grown_is (set_q one some ∷ qs) vs = grown_is qs (grow vs) ∙ with_set_lem qs vs
+grown_is (setQ some ∷ qs) vs = grown_is qs (grow vs) ∙ with_set_lem qs vs
 grown_is (countQ some ∷ qs) vs = grown_is qs (vs ++ num (pos 0) ∷ []) ∙ with_number qs vs
 
 pub grown_final : (qs : List Quantifier) → grown qs [] ≡ final_values qs

@@ -5,10 +5,12 @@ use mathlib.Core.List.{List, [], ◌∷◌}
 use Prim.Native.Nat.{ℕ, zero, suc, ◌+◌, ◌<◌}
 use native.Mathlib.Numerals.{add-one}
 use native.Mathlib.Omega.{arith}
-use lib.IntN.{ℤ, pos}
+use borrow.Author.Tests.{ne_eqb}
+use lib.Dec.{eqb}
+use lib.IntN.{ℤ}
 use lib.ListN.{length, get_or, drop}
 use lib.Seq.{drop-cons}
-use Rattle.checker.specs.Claim.{Quantifier, intQ, set_q, countQ}
+use Rattle.checker.specs.Claim.{Quantifier, intQ, setQ, countQ}
 use Rattle.checker.specs.Kinds.{number, quantifier_of}
 use Rattle.checker.specs.Sorts.{is_set_q, sets}
 use Rattle.checker.specs.Meaning.{set_at}
@@ -17,16 +19,30 @@ use Rattle.matrix.specs.Final.{final_values}
 
 -- ---- quantifiers by their words
 
-pub kind_word : (z : ℤ) → quantifier_of (pos (number z)) ≡ quantifier_of z
-unfolding quantifier_of number
-kind_word z = refl
+kind_sets : (m : ℕ) → (m ≡ 3 → ⊥) → eqb m 4 ≡ is_set_q (get_or (intQ true ∷ intQ true ∷ intQ false ∷ setQ true ∷ setQ false ∷ countQ true ∷ countQ false ∷ []) m (intQ true))
+kind_sets zero h = refl
+kind_sets (suc zero) h = refl
+kind_sets (suc (suc zero)) h = refl
+kind_sets (suc (suc (suc zero))) h = absurd (h refl)
+kind_sets (suc (suc (suc (suc zero)))) h = refl
+kind_sets (suc (suc (suc (suc (suc zero))))) h = refl
+kind_sets (suc (suc (suc (suc (suc (suc zero)))))) h = refl
+kind_sets (suc (suc (suc (suc (suc (suc (suc m))))))) h = ne_eqb (suc (suc (suc (suc (suc (suc (suc m))))))) 4 (λ e. omega arith)
+
+pub kind_3 : (z : ℤ) → number z ≡ 3 → true ≡ is_set_q (quantifier_of z)
+unfolding quantifier_of
+kind_3 z e = rw e
+
+pub kind_4 : (z : ℤ) → (number z ≡ 3 → ⊥) → eqb (number z) 4 ≡ is_set_q (quantifier_of z)
+unfolding quantifier_of
+kind_4 z h = kind_sets (number z) h
 
 -- ---- one quantifier further
 
 sets-cons : (q : Quantifier) (qs : List Quantifier) → sets (q ∷ qs) ≡ sets qs + cond (is_set_q q) 1 0
 unfolding sets
 sets-cons (intQ some) qs = omega arith
-sets-cons (set_q one some) qs = omega arith
+sets-cons (setQ some) qs = omega arith
 sets-cons (countQ some) qs = omega arith
 
 module _ (qs : List Quantifier) (j : ℕ) (h : j < length qs) where
@@ -46,8 +62,8 @@ unfolding final_values set_at covers
 covers-suc [] q r e = absurd (true≢false (sym e))
 covers-suc (intQ some ∷ qs) zero r e = absurd (true≢false (sym e))
 covers-suc (intQ some ∷ qs) (suc q) r e = covers-suc qs q r e
-covers-suc (set_q one some ∷ qs) zero r e = refl
-covers-suc (set_q one some ∷ qs) (suc q) r e = covers-suc qs q r e
+covers-suc (setQ some ∷ qs) zero r e = refl
+covers-suc (setQ some ∷ qs) (suc q) r e = covers-suc qs q r e
 covers-suc (countQ some ∷ qs) zero r e = absurd (true≢false (sym e))
 covers-suc (countQ some ∷ qs) (suc q) r e = covers-suc qs q r e
 

@@ -1,7 +1,7 @@
 -- The quantifiers' values over the final regions (01, "Regions"): the outermost set is the highest bit of a final region's number.
 -- Assumes nothing.
 use Rattle.std.specs.Prelude.{List, [], ◌∷◌, ◌/◌, ◌^◌, pos}
-use Rattle.checker.specs.Claim.{Quantifier, intQ, set_q, countQ}
+use Rattle.checker.specs.Claim.{Quantifier, intQ, setQ, countQ}
 use Rattle.checker.specs.Sorts.{sets}
 use Rattle.checker.specs.Meaning.{Value, set, num}
 use Rattle.region.specs.Regions.{odd}
@@ -10,5 +10,5 @@ use Rattle.region.specs.Regions.{odd}
 unfoldable pub final_values : List Quantifier → List Value
 final_values [] = []
 final_values (intQ some ∷ qs) = num (pos 0) ∷ final_values qs
-final_values (set_q one some ∷ qs) = set (λ r. odd (r / 2 ^ sets qs)) ∷ final_values qs
+final_values (setQ some ∷ qs) = set (λ r. odd (r / 2 ^ sets qs)) ∷ final_values qs
 final_values (countQ some ∷ qs) = num (pos 0) ∷ final_values qs

@@ -16,7 +16,11 @@ pub fn over_sets(words: &[i32], shape: Shape, j: usize) -> bool
     requires j_lt_quantifiers { j < shape.quantifiers }
     ensures { result ≡ is_set_q (get_or (claim_of words.now).quantifiers j (intQ true)) }
 {
-    checker::kinds::binds_set(checker::word(words, 3 * shape.nodes + j))
+    let kind = checker::word(words, 3 * shape.nodes + j);
+    if kind == 3 {
+        return true;
+    }
+    kind == 4
 }
 
 // The bit of a quantifier's set in a region's number: how many sets stand inside it.

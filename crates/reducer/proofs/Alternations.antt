@@ -6,23 +6,22 @@ use mathlib.Core.List.{List, [], ◌∷◌, ◌++◌}
 use Prim.Native.Nat.{ℕ, zero, suc, ◌+◌, ◌<◌}
 use native.Mathlib.Omega.{arith}
 use lib.ListN.{replicate}
-use Rattle.checker.specs.Claim.{Quantifier, Claim, intQ, set_q, countQ}
-use Rattle.checker.specs.Sorts.{is_some}
+use Rattle.checker.specs.Claim.{Quantifier, Claim, intQ, setQ, countQ}
 use Rattle.checker.specs.Meaning.{bit}
 use Rattle.region.specs.Regions.{dbl}
 use Rattle.emission.specs.Emission.{Frame, start, with_number, with_set, becomes, emit_quantifiers, emission}
 use Rattle.emission.proofs.Lengths.{dbl_some}
-use Rattle.reducer.specs.Sizes.{alternations}
+use Rattle.reducer.specs.Sizes.{is_exists, alternations}
 
 -- the alternations after a quantifier that is an exists or not
 unfoldable changes : Bool → List Quantifier → ℕ
 changes a [] = 0
-changes a (q ∷ qs) = bit (not (beq a (is_some q))) + changes (is_some q) qs
+changes a (q ∷ qs) = bit (not (beq a (is_exists q))) + changes (is_exists q) qs
 
-alternations_after : (q : Quantifier) (qs : List Quantifier) → alternations (q ∷ qs) ≡ changes (is_some q) qs
+alternations_after : (q : Quantifier) (qs : List Quantifier) → alternations (q ∷ qs) ≡ changes (is_exists q) qs
 unfolding alternations changes
 alternations_after q [] = refl
-alternations_after q (p ∷ qs) = ap (λ x. bit (not (beq (is_some q) (is_some p))) + x) (alternations_after p qs)
+alternations_after q (p ∷ qs) = ap (λ x. bit (not (beq (is_exists q) (is_exists p))) + x) (alternations_after p qs)
 
 -- ---- a row of one kind
 
@@ -51,7 +50,7 @@ changes_emit : (qs : List Quantifier) (f : Frame) (a : Bool) → 0 < f.regions �
 unfolding changes emit_quantifiers becomes with_set with_number
 changes_emit [] f a h = refl
 changes_emit (intQ some ∷ qs) f a h = ap (λ x. bit (not (beq a some)) + x) (changes_emit qs (with_number f) some h)
-changes_emit (set_q one some ∷ qs) f a h =
+changes_emit (setQ some ∷ qs) f a h =
     row_after (dbl f.regions) some _ a (dbl_some f.regions h)
     ∙ ap (λ x. bit (not (beq a some)) + x) (changes_emit qs (with_set f) some (dbl_some f.regions h))
 changes_emit (countQ some ∷ qs) f a h = ap (λ x. bit (not (beq a some)) + x) (changes_emit qs (with_number f) some h)
@@ -61,9 +60,9 @@ unfolding emit_quantifiers becomes with_set with_number
 alternations_emit [] f h = refl
 alternations_emit (intQ some ∷ qs) f h =
     alternations_after (intQ some) _ ∙ changes_emit qs (with_number f) some h ∙ sym (alternations_after (intQ some) qs)
-alternations_emit (set_q one some ∷ qs) f h =
+alternations_emit (setQ some ∷ qs) f h =
     row_first (dbl f.regions) some _ (dbl_some f.regions h) ∙ changes_emit qs (with_set f) some (dbl_some f.regions h)
-    ∙ sym (alternations_after (set_q one some) qs)
+    ∙ sym (alternations_after (setQ some) qs)
 alternations_emit (countQ some ∷ qs) f h =
     alternations_after (countQ some) _ ∙ changes_emit qs (with_number f) some h ∙ sym (alternations_after (countQ some) qs)
 

@@ -9,7 +9,7 @@ use lib.IntN.{ℤ, pos}
 use lib.ListN.{length, get_or, take, drop, replicate, length-append, length-map, take-append-drop}
 use lib.Seq.{get_or-append-add, take-length}
 use Rattle.checker.specs.declared.Shape.{Shape}
-use Rattle.checker.specs.Claim.{Quantifier, intQ, set_q, countQ, Claim}
+use Rattle.checker.specs.Claim.{Quantifier, intQ, setQ, countQ, Claim}
 use Rattle.checker.specs.Kinds.{number, quantifier_of}
 use Rattle.checker.specs.Words.{word, word_at, claim_of, nodes_words, quantifier_word, trailer, words_of}
 use Rattle.checker.specs.Sorts.{is_set_q}
@@ -20,7 +20,7 @@ use Rattle.emission.specs.declared.Frame as code
 use Rattle.emission.specs.Emission.{Frame, start, inside_all, becomes, emit_quantifiers, emission}
 use Rattle.emission.specs.Plan.{frame_at}
 use Rattle.emission.proofs.Steps.{quantifiers-append, quantifiers_step}
-use Rattle.emission.proofs.Frames.{regions_are, shifted}
+use Rattle.emission.proofs.Frames.{regions_are, shifted, kind_number}
 use Rattle.reducer.specs.Closing.{Prepared, becomes_at}
 use Rattle.reducer.proofs.Joining.{known, in_claim, frame_says, frame_within, kind_is}
 
@@ -47,21 +47,17 @@ word_number : (q : Quantifier) → pos (number (quantifier_word q)) ≡ quantifi
 unfolding number
 word_number (intQ true) = refl
 word_number (intQ false) = refl
-word_number (set_q false true) = refl
-word_number (set_q false false) = refl
-word_number (set_q true true) = refl
-word_number (set_q true false) = refl
+word_number (setQ true) = refl
+word_number (setQ false) = refl
 word_number (countQ true) = refl
 word_number (countQ false) = refl
 
-word_small : (q : Quantifier) → number (quantifier_word q) ≤ 8
+word_small : (q : Quantifier) → number (quantifier_word q) ≤ 6
 unfolding number
 word_small (intQ true) = omega arith
 word_small (intQ false) = omega arith
-word_small (set_q false true) = omega arith
-word_small (set_q false false) = omega arith
-word_small (set_q true true) = omega arith
-word_small (set_q true false) = omega arith
+word_small (setQ true) = omega arith
+word_small (setQ false) = omega arith
 word_small (countQ true) = omega arith
 word_small (countQ false) = omega arith
 
@@ -70,14 +66,14 @@ word_at_lem [] rest j h = absurd (omega arith)
 word_at_lem (q ∷ qs) rest zero h = refl
 word_at_lem (q ∷ qs) rest (suc j) h = word_at_lem qs rest j (omega arith)
 
-becomes_set : (f : Frame) (one some : Bool) → map quantifier_word (becomes f (set_q one some)) ≡ replicate (dbl f.regions) (quantifier_word (countQ some))
+becomes_set : (f : Frame) (some : Bool) → map quantifier_word (becomes f (setQ some)) ≡ replicate (dbl f.regions) (quantifier_word (countQ some))
 unfolding becomes
-becomes_set f one some = map-replicate quantifier_word (dbl f.regions) (countQ some)
+becomes_set f some = map-replicate quantifier_word (dbl f.regions) (countQ some)
 
 becomes_number : (f : Frame) (q : Quantifier) → is_set_q q ≡ false → map quantifier_word (becomes f q) ≡ quantifier_word q ∷ []
 unfolding becomes
 becomes_number f (intQ some) e = refl
-becomes_number f (set_q one some) e = let z : ◌≡◌ {A = ℕ} 0 1 = cc in absurd (omega arith)
+becomes_number f (setQ some) e = let z : ◌≡◌ {A = ℕ} 0 1 = cc in absurd (omega arith)
 becomes_number f (countQ some) e = refl
 
 module _ {ws : List ℤ} {shape : Shape} {plan : List ℕ} (p : Prepared ws shape plan) (j : ℕ) (h : j < shape.quantifiers) where
@@ -94,14 +90,14 @@ module _ {ws : List ℤ} {shape : Shape} {plan : List ℕ} (p : Prepared ws shap
       ∙ word_at_lem quantifiers (trailer c) j (in_claim p j h) in
       ap pos (e ∙ ap number same) ∙ word_number (get_or quantifiers j (intQ true))
 
-  pub kind_small : (k : ℕ) → k ≡ word_at ws (3 * shape.nodes + j) → k ≤ 8
+  pub kind_small : (k : ℕ) → k ≡ word_at ws (3 * shape.nodes + j) → k ≤ 6
   unfolding number
   kind_small k e = rw (← kind_word k e) at (word_small (get_or quantifiers j (intQ true)))
 
-  pub number_becomes : (k : ℕ) → k ≡ word_at ws (3 * shape.nodes + j) → is_set_q (quantifier_of (pos k)) ≡ false → becomes_at (claim_of ws) j ≡ replicate 1 (pos k)
+  pub number_becomes : (k : ℕ) → k ≡ word_at ws (3 * shape.nodes + j) → (3 ≤ k → k < 5 → ⊥) → becomes_at (claim_of ws) j ≡ replicate 1 (pos k)
   unfolding becomes_at
   number_becomes k e n =
-      becomes_number _ (get_or quantifiers j (intQ true)) (ap is_set_q (kind_is p j h k (sym e)) ∙ n) ∙ ap (λ z. z ∷ []) (sym (kind_word k e))
+      becomes_number _ (get_or quantifiers j (intQ true)) (ap is_set_q (kind_is p j h k (sym e)) ∙ kind_number k n) ∙ ap (λ z. z ∷ []) (sym (kind_word k e))
 
   module _ {f : code.Frame} (e : f ≡ frame_at plan j) where
     regions_twice : 2 * 2 ^ f.level % 2 ^ 64 ≡ dbl (inside_all start (take j quantifiers)).regions
@@ -110,12 +106,20 @@ module _ {ws : List ℤ} {shape : Shape} {plan : List ℕ} (p : Prepared ws shap
         shifted f.level (frame_within p j h e).level ∙ ap (λ k. 2 * 2 ^ k) says.level ∙ ap (λ n. 2 * n) (sym (regions_are (take j quantifiers)))
         ∙ sym (dbl_is (inside_all start (take j quantifiers)).regions)
 
-    pub set_becomes : (one some : Bool) → get_or quantifiers j (intQ true) ≡ set_q one some
+    set_becomes : (some : Bool) → get_or quantifiers j (intQ true) ≡ setQ some
         → becomes_at (claim_of ws) j ≡ replicate (2 * 2 ^ f.level % 2 ^ 64) (quantifier_word (countQ some))
     unfolding becomes_at
-    set_becomes one some q =
-        ap (λ x. map quantifier_word (becomes (inside_all start (take j quantifiers)) x)) q ∙ becomes_set _ one some
+    set_becomes some q =
+        ap (λ x. map quantifier_word (becomes (inside_all start (take j quantifiers)) x)) q ∙ becomes_set _ some
         ∙ ap (λ n. replicate n (quantifier_word (countQ some))) (sym regions_twice)
+
+    pub some_becomes : word_at ws (3 * shape.nodes + j) ≡ 3 → becomes_at (claim_of ws) j ≡ replicate (2 * 2 ^ f.level % 2 ^ 64) (pos 5)
+    unfolding quantifier_of number
+    some_becomes w = set_becomes true (kind_is p j h 3 w)
+
+    pub all_becomes : word_at ws (3 * shape.nodes + j) ≡ 4 → becomes_at (claim_of ws) j ≡ replicate (2 * 2 ^ f.level % 2 ^ 64) (pos 6)
+    unfolding quantifier_of number
+    all_becomes w = set_becomes false (kind_is p j h 4 w)
 
 -- ---- one quantifier further
 

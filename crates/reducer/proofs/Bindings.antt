@@ -8,7 +8,7 @@ use native.Mathlib.Omega.{arith}
 use lib.IntN.{ℤ, pos, ◌+ℤ◌}
 use lib.ListN.{length, get_or, length-append, replicate, length-map, get_or-map}
 use lib.Seq.{get_or_at, get_or-append-add}
-use Rattle.checker.specs.Claim.{Quantifier, intQ, set_q, countQ}
+use Rattle.checker.specs.Claim.{Quantifier, intQ, setQ, countQ}
 use Rattle.checker.specs.Sorts.{is_set_q, Binds, sets}
 use Rattle.checker.specs.Meaning.{Value, as_set, as_num, set_at, num_at, eq_z, World, set, num, truth}
 use Rattle.region.specs.Regions.{half, odd, dbl, Split, over}
@@ -32,7 +32,7 @@ pub no_sets_emit : (qs : List Quantifier) (f : Frame) → sets (emit_quantifiers
 unfolding emit_quantifiers becomes sets
 no_sets_emit [] f = refl
 no_sets_emit (intQ some ∷ qs) f = no_sets_emit qs (with_number f)
-no_sets_emit (set_q one some ∷ qs) f = sets_row (dbl f.regions) some (emit_quantifiers (with_set f) qs) ∙ no_sets_emit qs (with_set f)
+no_sets_emit (setQ some ∷ qs) f = sets_row (dbl f.regions) some (emit_quantifiers (with_set f) qs) ∙ no_sets_emit qs (with_set f)
 no_sets_emit (countQ some ∷ qs) f = no_sets_emit qs (with_number f)
 
 -- counts as values
@@ -172,11 +172,6 @@ module _ (w : World) (done : List Quantifier) (f : Frame) (us vs : List Value) (
 
       latest : {y z : ℤ} → Binds false (done ++ q ∷ []) (length f.numbers) → y ≡ z
       latest h = absurd (false≢true (sym (binds_new done q _ b.numbers_long h) ∙ set?))
-
-  pub parts_are : (ls : List ℕ) → length ls ≡ dbl f.regions → (more : List Value) (r : ℕ) → r < dbl f.regions
-      → amount w ((us ++ counts_of ls) ++ more) (counts f.next) r ≡ pos (get_or ls r 0)
-  unfolding amount
-  parts_are ls l more r h = count_at ls more r (omega arith)
 
   -- the constraint of one more set
   pub held_is : (ls : List ℕ) → length ls ≡ dbl f.regions → (more : List Value) → held w ((us ++ counts_of ls) ++ more) f ≡ splits f.regions cs ls

@@ -9,7 +9,7 @@ use Prim.Native.Nat.{ℕ, zero, suc}
 use native.Mathlib.Omega.{arith}
 use lib.IntN.{pos}
 use lib.ListN.{length, replicate}
-use Rattle.checker.specs.Claim.{Quantifier, Claim, intQ, set_q, countQ}
+use Rattle.checker.specs.Claim.{Quantifier, Claim, intQ, setQ, countQ}
 use Rattle.checker.specs.Sorts.{sets}
 use Rattle.checker.specs.Meaning.{Value, matrix, ports, Quantified, Holds, Subset, num}
 use Rattle.region.proofs.Quantified.{quantified, quantified_same, quantified_any, quantified_pair}
@@ -64,7 +64,7 @@ module _ (N : ℕ) (c : Claim) where
   unfolding sets
   constant t [] n us h = let e : matrix (ports N) c us ≡ t = rw append-nil at (h []) in (λ p. sym e ∙ p, λ p. e ∙ p)
   constant t (intQ some ∷ qs) n us h = quantified_any some (pos 0) (λ k. constant t qs n _ (one_more us (num k) h))
-  constant t (set_q one some ∷ qs) n us h = absurd (omega arith)
+  constant t (setQ some ∷ qs) n us h = absurd (omega arith)
   constant t (countQ some ∷ qs) n us h = quantified_any some 0 (λ k. constant t qs n _ (one_more us (num (pos k)) h))
 
 -- ---- choices that meet a test

@@ -3,18 +3,15 @@
 use mathlib.Core.Path.{◌≡◌, ◌∙◌, ap, ap₂}
 use mathlib.Core.Bool.{Bool, true, false, not, ◌&&◌, ◌||◌}
 use mathlib.Core.List.{List, [], ◌∷◌, ◌++◌}
-use Prim.Native.Nat.{ℕ, ◌+◌, ◌<◌}
+use Prim.Native.Nat.{◌+◌, ◌<◌}
 use native.Mathlib.Omega.{arith}
-use lib.Dec.{eqb}
-use lib.IntN.{pos}
-use lib.ListN.{length, get_or, length-append}
-use Rattle.checker.specs.Claim.{Node, Quantifier, conj, disj, neg, intQ, set_q, countQ}
+use lib.ListN.{length, length-append}
+use Rattle.checker.specs.Claim.{Node, Quantifier, conj, disj, neg, intQ, setQ, countQ}
 use Rattle.checker.specs.Meaning.{Value, as_truth, truth_at, World, value_of, values, every, truth}
-use Rattle.region.specs.Regions.{odd, dbl, over, covered}
-use Rattle.emission.specs.Emission.{Frame, inside, last, Body, amount_run, split_run, port_run, constraint_run, join_some, join_all, join, close, counts}
+use Rattle.emission.specs.Emission.{Frame, inside, last, Body, split_run, join_some, join_all, join, close, counts}
 use Rattle.reducer.proofs.Lists.{new_at}
-use Rattle.reducer.proofs.Ends.{no_value, values-append, values_length, Ends, ends_keep, amount, truth_at_lem, truth_below}
-use Rattle.reducer.proofs.Runs.{covered_below, total_over, amount_ends, joined_ends, meets, constraint_ends}
+use Rattle.reducer.proofs.Ends.{no_value, values-append, values_length, Ends, ends_keep, truth_at_lem, truth_below}
+use Rattle.reducer.proofs.Runs.{meets, constraint_ends}
 
 unfoldable pub says : World → List Value → Body → Bool
 says w us b = truth_at (values w us [] b.nodes) b.root
@@ -82,34 +79,10 @@ abbrev pub guarded : Bool → Bool → Bool → Bool
 guarded true t b = t && b
 guarded false t b = not t || b
 
--- what the constraint says: the split holds, and for single ports n is 1
-abbrev pub tested : Bool → Bool → ℕ → Bool
-tested false t n = t
-tested true t n = t && eqb n 1
-
--- where ls are the counts of the parts
-module _ (w : World) (us : List Value) (f : Frame) (h : 0 < f.regions) (ls : List ℕ) (long : length ls ≡ dbl f.regions)
-    (are : (r : ℕ) → r < dbl f.regions → amount w us (counts f.next) r ≡ pos (get_or ls r 0)) where
-  port_ends : (b : Body) → Ends w us (values w us [] b.nodes) (port_run f (length b.nodes)) (truth (held w us f && eqb (over odd ls) 1))
-  unfolding port_run
-  port_ends b =
-      let k = length b.nodes in
-      let vs = values w us [] b.nodes in
-      let run = split_run f k in
-      let rs = covered 0 (dbl f.regions) odd in
-      let e = total_over ls (dbl f.regions) long odd in
-      joined_ends w us vs k (omega (arith, values_length w us [] b.nodes)) run (amount_run 1 (counts f.next) (k + length run) rs) (split_ends w us f h b)
-      (λ zs here. rw e at (amount_ends w us (counts f.next) (dbl f.regions) (λ r. get_or ls r 0) are 1 rs (covered_below (dbl f.regions) odd) zs (k + length run) here))
-
-  limit_ends : (one : Bool) (b : Body)
-      → Ends w us (values w us [] b.nodes) (constraint_run one f (length b.nodes)) (truth (tested one (held w us f) (over odd ls)))
-  limit_ends false b = split_ends w us f h b
-  limit_ends true b = port_ends b
-
-  pub says-join : (one some : Bool) (b : Body) → Rooted b
-      → says w us (join f (set_q one some) b) ≡ guarded some (tested one (held w us f) (over odd ls)) (says w us b)
-  says-join one true b r = says_some _ b r w us (tested one (held w us f) (over odd ls)) (limit_ends one b)
-  says-join one false b r = says_all _ b r w us (tested one (held w us f) (over odd ls)) (limit_ends one b)
+pub says-join : (w : World) (us : List Value) (f : Frame) → 0 < f.regions → (some : Bool) (b : Body) → Rooted b
+    → says w us (join f (setQ some) b) ≡ guarded some (held w us f) (says w us b)
+says-join w us f n true b h = says_some _ b h w us (held w us f) (split_ends w us f n b)
+says-join w us f n false b h = says_all _ b h w us (held w us f) (split_ends w us f n b)
 
 -- ---- the constraints of all quantifiers
 
@@ -123,8 +96,8 @@ close_keeps P step (q ∷ qs) f b h = step f q (close (inside f q) qs b) (close_
 join_rooted : (f : Frame) (q : Quantifier) (b : Body) → Rooted b → Rooted (join f q b)
 unfolding join_some join_all
 join_rooted f (intQ some) b h = h
-join_rooted f (set_q one true) b h = simp length-append (omega arith)
-join_rooted f (set_q one false) b h = simp length-append (omega arith)
+join_rooted f (setQ true) b h = simp length-append (omega arith)
+join_rooted f (setQ false) b h = simp length-append (omega arith)
 join_rooted f (countQ some) b h = h
 
 pub close_rooted : (qs : List Quantifier) (f : Frame) (b : Body) → Rooted b → Rooted (close f qs b)

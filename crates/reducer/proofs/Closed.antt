@@ -1,22 +1,21 @@
 -- The emission of a well-sorted claim is well sorted.
 -- Assumes nothing.
-use mathlib.Core.Path.{◌≡◌, refl, sym, subst}
-use mathlib.Core.Bool.{Bool, true, false}
+use mathlib.Core.Path.{◌≡◌, refl, subst}
+use mathlib.Core.Bool.{true, false}
 use mathlib.Core.List.{List, [], ◌∷◌, ◌++◌, append_assoc}
 use Prim.Native.Nat.{ℕ, zero, suc, ◌+◌, ◌*◌, ◌-◌, ◌<◌, ◌≤◌}
 use native.Mathlib.Omega.{arith}
 use lib.ListN.{length, length-append}
 use Rattle.checker.specs.declared.Sort.TheVariants.{ATerm, AFormula}
-use Rattle.checker.specs.Claim.{Node, Quantifier, Claim, sum, equal, conj, disj, neg, intQ, set_q, countQ}
+use Rattle.checker.specs.Claim.{Node, Quantifier, Claim, sum, equal, conj, disj, neg, intQ, setQ, countQ}
 use Rattle.checker.specs.Sorts.{sort, Is, Fits, AllFit, WellSorted, sets}
-use Rattle.region.specs.Regions.{odd, dbl, covered}
+use Rattle.region.specs.Regions.{dbl}
 use Rattle.region.proofs.Regions.{dbl_is}
-use Rattle.emission.specs.Emission.{Place, region_node, Frame, start, with_set, inside, inside_all, emit_quantifiers, last, five, further_fives, constraint, Body, amount_run, split_run, port_run, constraint_run, join_some, join_all, join, close, body, emission, counts}
+use Rattle.emission.specs.Emission.{Place, region_node, Frame, start, with_set, inside, inside_all, emit_quantifiers, last, five, further_fives, constraint, Body, split_run, join_some, join_all, join, close, body, emission, counts}
 use Rattle.emission.proofs.Lengths.{next_is}
-use Rattle.reducer.proofs.Stands.{is_more, is_new, Tail, region_sort, amount_tail, tail_is, nothing, shaped_none, shaped_all}
+use Rattle.reducer.proofs.Stands.{is_more, is_new, Tail, region_sort, tail_is, nothing, shaped_none, shaped_all}
 use Rattle.reducer.proofs.Bindings.{no_sets_emit}
-use Rattle.reducer.proofs.Fit.{fit_append, region_fits, amount_fits, nodes_fit}
-use Rattle.reducer.proofs.Runs.{covered_below}
+use Rattle.reducer.proofs.Fit.{fit_append, region_fits, nodes_fit}
 use Rattle.reducer.proofs.Frames.{Framed, framed_start, framed_inside, framed_all}
 
 module _ (qs : List Quantifier) (free : sets qs ≡ 0) where
@@ -108,41 +107,6 @@ module _ (qs : List Quantifier) (free : sets qs ≡ 0) where
     unfolding split_run
     split_tail k = constraint_tail f.place (counts f.next) f.regions parents_fit children_fit k
 
-    port_fits : (done : List Node) → AllFit qs done (port_run f (length done))
-    unfolding port_run
-    port_fits done =
-        let k = length done in
-        let one = split_run f k in
-        let m = k + length one in
-        let rs = covered 0 (dbl f.regions) odd in
-        let two = amount_run 1 (counts f.next) m rs in
-        let there : m ≡ length (done ++ one) = omega (arith, length-append done one) in
-        fit_append qs (one ++ two) done _
-        (fit_append qs one done two (split_fits done)
-        (amount_fits qs free (counts f.next) (dbl f.regions) children_fit 1 rs (covered_below (dbl f.regions) odd) (done ++ one) m there)) (
-          (
-            subst (λ l. Is AFormula l (last k one)) (append_assoc done one two) (is_more (done ++ one) two (last k one) (tail_is done one (split_tail k))),
-            subst (λ l. Is AFormula l (last m two)) (append_assoc done one two)
-                (subst (λ x. Is AFormula ((done ++ one) ++ two) (last x two)) (sym there) (tail_is (done ++ one) two (amount_tail 1 (counts f.next) m rs))),
-          ),
-          tt,
-        )
-
-    port_tail : (k : ℕ) → Tail AFormula (port_run f k)
-    unfolding port_run
-    port_tail k =
-        let one = split_run f k in
-        let two = amount_run 1 (counts f.next) (k + length one) (covered 0 (dbl f.regions) odd) in
-        record { front = one ++ two; final = conj (last k one) (last (k + length one) two); is = refl; sorted = refl }
-
-    limit_fits : (one : Bool) (done : List Node) → AllFit qs done (constraint_run one f (length done))
-    limit_fits false done = split_fits done
-    limit_fits true done = port_fits done
-
-    limit_tail : (one : Bool) (k : ℕ) → Tail AFormula (constraint_run one f k)
-    limit_tail false k = split_tail k
-    limit_tail true k = port_tail k
-
   module _ (run : List Node) (b : Body) (h : Sound b) (fits : AllFit qs b.nodes run) (tail : Tail AFormula run) where
     abbrev all : List Node
     all = b.nodes ++ run
@@ -172,8 +136,8 @@ module _ (qs : List Quantifier) (free : sets qs ≡ 0) where
   join_sound : (done : List Quantifier) (f : Frame) → Framed done f → (q : Quantifier) → (inside f q).next ≤ length qs → (b : Body) → Sound b → Sound (join f q b)
   unfolding with_set
   join_sound done f fr (intQ some) l b h = h
-  join_sound done f fr (set_q one true) l b h = some_sound _ b h (limit_fits done f fr l one b.nodes) (limit_tail done f fr l one (length b.nodes))
-  join_sound done f fr (set_q one false) l b h = all_sound _ b h (limit_fits done f fr l one b.nodes) (limit_tail done f fr l one (length b.nodes))
+  join_sound done f fr (setQ true) l b h = some_sound _ b h (split_fits done f fr l b.nodes) (split_tail done f fr l (length b.nodes))
+  join_sound done f fr (setQ false) l b h = all_sound _ b h (split_fits done f fr l b.nodes) (split_tail done f fr l (length b.nodes))
   join_sound done f fr (countQ some) l b h = h
 
   close_sound : (inner done : List Quantifier) (f : Frame) → Framed done f → (inside_all f inner).next ≤ length qs → (b : Body) → Sound b → Sound (close f inner b)

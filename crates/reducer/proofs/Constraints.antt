@@ -1,23 +1,20 @@
 -- The constraints in the parts in which they are written.
 -- Assumes nothing.
 use mathlib.Core.Path.{◌≡◌, refl, ◌∙◌}
-use mathlib.Core.Bool.{Bool, true, false}
-use mathlib.Core.List.{List, [], ◌∷◌, ◌++◌, append-nil, append_assoc}
+use mathlib.Core.List.{List, [], ◌∷◌, ◌++◌, append-nil}
 use Prim.Native.Nat.{ℕ, ◌+◌, ◌*◌, ◌-◌, ◌^◌, ◌%◌, ◌≤◌}
 use native.Mathlib.Nat.{one-mul}
-use native.Mathlib.Numerals.{add-one}
 use native.Mathlib.Omega.{arith}
 use lib.Dec.{lit<}
-use lib.ListN.{length, length-append}
+use lib.ListN.{length}
 use lib.Pow.{shl_exact, pow_pos}
 use Rattle.checker.specs.Claim.{Node, num_var, sum, equal, conj, disj, neg}
 use Rattle.checker.specs.Check.{max_sets}
-use Rattle.region.specs.Regions.{odd, dbl, covered}
 use Rattle.emission.specs.declared.Frame as code
-use Rattle.emission.specs.Emission.{Place, counts, region_node, last, amount_run, five, further_fives, constraint}
-use Rattle.emission.specs.Plan.{place_at, place_in}
-use Rattle.emission.proofs.Lengths.{card_length, amount_length, constraint-length}
-use Rattle.reducer.specs.Closing.{constraint_in, port_in, limit_in}
+use Rattle.emission.specs.Emission.{Place, counts, region_node, last, five, further_fives, constraint}
+use Rattle.emission.specs.Plan.{place_in}
+use Rattle.emission.proofs.Lengths.{constraint-length}
+use Rattle.reducer.specs.Closing.{constraint_in}
 
 -- ---- a region
 
@@ -65,31 +62,6 @@ module _ (f : code.Frame) (at : ℕ) where
 
   pub constraint_some : 1 ≤ length (constraint_in f at)
   constraint_some = omega (arith, constraint_long, pow_pos f.level)
-
--- ---- over single ports
-
--- the place of the parts
-pub inside_place : (f : code.Frame) → place_at (f.level + 1) f.next ≡ counts f.next
-inside_place f = rw (add-one f.level)
-
-module _ (f : code.Frame) (at : ℕ) where
-  abbrev odds : List ℕ
-  odds = covered 0 (dbl (2 ^ f.level)) odd
-
-  pub port_long : length (port_in f at) ≡ length (constraint_in f at) + (card_length odds + 2) + 1
-  unfolding port_in
-  port_long = simp length-append (omega (arith, amount_length 1 (counts f.next) odds (at + length (constraint_in f at))))
-
-  -- `ones` and `join` are the nodes after the constraint and after what says that there is one port
-  pub port_parts : (p : Place) (n ones join : ℕ) → p ≡ counts f.next → n ≡ 2 ^ f.level → ones ≡ at + length (constraint_in f at)
-      → join ≡ ones + length (amount_run 1 p ones (covered 0 (dbl n) odd))
-      → port_in f at ≡ constraint_in f at ++ (amount_run 1 p ones (covered 0 (dbl n) odd) ++ (conj (ones - 1) (join - 1) ∷ []))
-  unfolding port_in
-  port_parts p n ones join e m o j = rw (j, o, e, m) (append_assoc (constraint_in f at) (amount_run 1 (counts f.next) (at + length (constraint_in f at)) odds) _)
-
-pub limit_some : (one : Bool) (f : code.Frame) (at : ℕ) → 1 ≤ length (limit_in one f at)
-limit_some false f at = constraint_some f at
-limit_some true f at = omega (arith, port_long f at)
 
 -- ---- with the body; `join` is the node after the constraint
 

@@ -1,119 +1,88 @@
 -- How much is emitted, as the code counts it, and the words in the order in which they are written.
 -- Assumes nothing.
 use mathlib.Core.Path.{◌≡◌, refl, sym, ap, ◌∙◌}
-use mathlib.Core.Bool.{Bool, true, false, not, false≢true}
+use mathlib.Core.Bool.{true, false}
 use mathlib.Core.List.{List, [], ◌∷◌, ◌++◌, map, append_assoc}
-use Prim.Native.Nat.{ℕ, suc, ◌+◌, ◌*◌, ◌^◌, ◌%◌, ◌≤◌, ◌<◌}
-use native.Mathlib.Nat.{zero-add, one-mul, mul-one, mul-le-mul, le_refl, pow-le-pow_right}
+use Prim.Native.Nat.{ℕ, zero, suc, ◌+◌, ◌*◌, ◌^◌, ◌%◌, ◌≤◌, ◌<◌}
+use native.Mathlib.Nat.{zero-add, pow-le-pow_right}
 use native.Mathlib.Omega.{arith}
 use lib.IntN.{ℤ, pos}
-use lib.ListN.{length, take, drop, length-append}
+use lib.ListN.{length, get_or, take, length-append}
 use lib.Pow.{pow_pos}
-use lib.Seq.{take-length, drop-length}
+use lib.Seq.{take-length}
 use Rattle.checker.specs.declared.Shape.{Shape}
-use Rattle.checker.specs.Claim.{Quantifier, intQ, set_q, countQ, Claim}
-use Rattle.checker.specs.Kinds.{quantifier_of}
+use Rattle.checker.specs.Claim.{Quantifier, intQ, setQ, countQ, Claim}
+use Rattle.checker.specs.Kinds.{number, quantifier_of}
 use Rattle.checker.specs.Words.{word_at, claim_of, nodes_words, quantifier_word, mark, trailer, words_of}
-use Rattle.checker.specs.Sorts.{is_set_q, is_some, is_one, sets}
-use Rattle.checker.specs.Meaning.{bit}
 use Rattle.checker.specs.Check.{max_sets}
 use Rattle.checker.proofs.Words.{words_append, words-length}
 use Rattle.emission.specs.Emission.{start, inside_all, emit_quantifiers, body, emission}
-use Rattle.emission.specs.Sizes.{all_sets, ported, port_nodes}
+use Rattle.emission.specs.Sizes.{all_sets}
 use Rattle.emission.specs.Plan.{frame_at}
 use Rattle.lent.specs.Write.{Wrote}
 use Rattle.emission.specs.Write.{Room, WroteNodes}
 use Rattle.checker.proofs.Claims.{Sound}
 use Rattle.emission.proofs.Claims.{quantifier_at_lem}
 use Rattle.emission.proofs.Lengths.{next_is}
-use Rattle.emission.proofs.Steps.{next_dropped}
+use Rattle.emission.proofs.Steps.{next_taken}
 use Rattle.lent.proofs.Writing.{wrote_then}
 use Rattle.emission.proofs.Writing.{nodes_after}
 use Rattle.reducer.specs.Sizes.{region_count, constraint_part}
 use Rattle.emission.specs.declared.Body as kept
 use Rattle.reducer.specs.Closing.{Prepared, closed_from, Tells, closing}
-use Rattle.reducer.proofs.Sizes.{twice_power, all_sets_few, port_nodes_most, constraints_last}
+use Rattle.reducer.proofs.Sizes.{constraints_last}
 use Rattle.reducer.proofs.Accepted.{accepted_nodes}
 use Rattle.reducer.proofs.Constraints.{regions_are}
 use Rattle.reducer.proofs.Joining.{known, rooted}
 
--- ---- what set quantifiers add
+-- ---- for-alls
 
-abbrev pub further_from : ℕ → List Quantifier → ℕ
-further_from n qs = all_sets qs + port_nodes n qs
+alls_append : (ps qs : List Quantifier) → all_sets (ps ++ qs) ≡ all_sets ps + all_sets qs
+unfolding all_sets
+alls_append [] qs = sym (zero-add (all_sets qs))
+alls_append (intQ some ∷ ps) qs = alls_append ps qs
+alls_append (setQ true ∷ ps) qs = alls_append ps qs
+alls_append (setQ false ∷ ps) qs = omega (arith, alls_append ps qs)
+alls_append (countQ some ∷ ps) qs = alls_append ps qs
 
-set_further : (one some : Bool) (n : ℕ) (qs : List Quantifier) → further_from n (set_q one some ∷ qs) ≡ bit (not some) + ported one n + further_from (n + n) qs
-unfolding all_sets port_nodes
-set_further false true n qs = omega arith
-set_further false false n qs = omega arith
-set_further true true n qs = omega arith
-set_further true false n qs = omega arith
+pub alls_few : (qs : List Quantifier) → all_sets qs ≤ length qs
+unfolding all_sets
+alls_few [] = omega arith
+alls_few (intQ some ∷ qs) = omega (arith, alls_few qs)
+alls_few (setQ true ∷ qs) = omega (arith, alls_few qs)
+alls_few (setQ false ∷ qs) = omega (arith, alls_few qs)
+alls_few (countQ some ∷ qs) = omega (arith, alls_few qs)
 
-of_set : (q : Quantifier) (n : ℕ) (qs : List Quantifier) → is_set_q q ≡ true
-    → (further_from n (q ∷ qs) ≡ bit (not (is_some q)) + ported (is_one q) n + further_from (n + n) qs) × (sets (q ∷ qs) ≡ suc (sets qs))
-unfolding sets
-of_set (intQ some) n qs e = absurd (false≢true e)
-of_set (set_q one some) n qs e = (set_further one some n qs, refl)
-of_set (countQ some) n qs e = absurd (false≢true e)
+all_one : (k : ℕ) → k ≡ 4 → all_sets (quantifier_of (pos k) ∷ []) ≡ 1
+unfolding all_sets quantifier_of number
+all_one k e = rw e
 
-of_number : (q : Quantifier) (n : ℕ) (qs : List Quantifier) → is_set_q q ≡ false → (further_from n (q ∷ qs) ≡ further_from n qs) × (sets (q ∷ qs) ≡ sets qs)
-unfolding sets all_sets port_nodes
-of_number (intQ some) n qs e = (refl, refl)
-of_number (set_q one some) n qs e = absurd (false≢true (sym e))
-of_number (countQ some) n qs e = (refl, refl)
-
--- After some of the quantifiers, of which qs are left: what is seen and what is left are the whole, and there are few regions.
-pub record Seen (all qs : List Quantifier) (n seen : ℕ) : Type 0 where
-  pub whole : seen + further_from n qs ≡ further_from 1 all
-  pub few : n * 2 ^ sets qs ≡ 2 ^ sets all
-
-pub seen_none : (qs : List Quantifier) → Seen qs qs 1 0
-seen_none qs = record { whole = zero-add (further_from 1 qs); few = one-mul (2 ^ sets qs) }
-
-seen_few : {all qs : List Quantifier} {n seen : ℕ} → sets all ≤ max_sets → Seen all qs n seen → n ≤ 2 ^ max_sets
-seen_few {all} {qs} {n} m s =
-    let r : 2 ^ sets all ≤ 2 ^ max_sets = pow-le-pow_right {n = 2} (omega arith) m in
-    let l : n * 1 ≤ n * 2 ^ sets qs = mul-le-mul (le_refl n) (pow_pos (sets qs)) in
-    omega (arith, s.few, mul-one n)
-
-pub further_few : (qs : List Quantifier) → sets qs ≤ max_sets → further_from 1 qs ≤ 2 * 2 ^ max_sets + 3 * max_sets
-further_few qs m =
-    let r : 2 ^ sets qs ≤ 2 ^ max_sets = pow-le-pow_right {n = 2} (omega arith) m in
-    omega (arith, all_sets_few qs, port_nodes_most qs)
+all_none : (k : ℕ) → (k ≡ 4 → ⊥) → all_sets (quantifier_of (pos k) ∷ []) ≡ 0
+unfolding all_sets quantifier_of number
+all_none zero n = refl
+all_none (suc zero) n = refl
+all_none (suc (suc zero)) n = refl
+all_none (suc (suc (suc zero))) n = refl
+all_none (suc (suc (suc (suc zero)))) n = absurd (n refl)
+all_none (suc (suc (suc (suc (suc zero))))) n = refl
+all_none (suc (suc (suc (suc (suc (suc zero)))))) n = refl
+all_none (suc (suc (suc (suc (suc (suc (suc k))))))) n = refl
 
 module _ {ws : List ℤ} {shape : Shape} (s : Sound ws shape) (j k : ℕ) (h : j < shape.quantifiers) (e : k ≡ word_at ws (3 * shape.nodes + j)) where
   abbrev qs : List Quantifier
   qs = (claim_of ws).quantifiers
 
-  next_one : drop j qs ≡ quantifier_of (pos k) ∷ drop (j + 1) qs
-  next_one =
+  alls_step : all_sets (take (j + 1) qs) ≡ all_sets (take j qs) + all_sets (quantifier_of (pos k) ∷ [])
+  alls_step =
       let l : j < length qs = omega (arith, s.quantifiers) in
-      next_dropped qs (intQ true) j l ∙ ap (λ x. x ∷ drop (j + 1) qs) (quantifier_at_lem ws shape.nodes j s.nodes l ∙ ap (λ n. quantifier_of (pos n)) (sym e))
+      let q : get_or qs j (intQ true) ≡ quantifier_of (pos k) = quantifier_at_lem ws shape.nodes j s.nodes l ∙ ap (λ n. quantifier_of (pos n)) (sym e) in
+      ap all_sets (next_taken qs (intQ true) j l) ∙ alls_append (take j qs) (get_or qs j (intQ true) ∷ []) ∙ ap (λ x. all_sets (take j qs) + all_sets (x ∷ [])) q
 
-  module _ {n seen : ℕ} (was : Seen qs (drop j qs) n seen) where
-    pub regions_small : n ≤ 2 ^ max_sets
-    regions_small = seen_few (omega (arith, s.sets, s.few_sets)) was
+  pub one_more : k ≡ 4 → all_sets (take (j + 1) qs) ≡ all_sets (take j qs) + 1
+  one_more is = alls_step ∙ ap (λ n. all_sets (take j qs) + n) (all_one k is)
 
-    pub seen_set : is_set_q (quantifier_of (pos k)) ≡ true
-        → Seen qs (drop (j + 1) qs) (n + n) (seen + (bit (not (is_some (quantifier_of (pos k)))) + ported (is_one (quantifier_of (pos k))) n))
-    seen_set b =
-        let t = of_set (quantifier_of (pos k)) n (drop (j + 1) qs) b in
-        record {
-          whole = omega (arith, was.whole, ap (further_from n) next_one, t.0);
-          few = twice_power n (sets (drop (j + 1) qs)) ∙ ap (λ m. n * 2 ^ m) (sym (ap sets next_one ∙ t.1)) ∙ was.few;
-        }
-
-    pub seen_number : is_set_q (quantifier_of (pos k)) ≡ false → Seen qs (drop (j + 1) qs) n seen
-    seen_number b =
-        let t = of_number (quantifier_of (pos k)) n (drop (j + 1) qs) b in
-        record {
-          whole = omega (arith, was.whole, ap (further_from n) next_one, t.0);
-          few = ap (λ m. n * 2 ^ m) (sym (ap sets next_one ∙ t.1)) ∙ was.few;
-        }
-
-pub seen_all : {all : List Quantifier} {n seen : ℕ} (j : ℕ) → j ≡ length all → Seen all (drop j all) n seen → seen ≡ further_from 1 all
-unfolding all_sets port_nodes
-seen_all {all} {n} {seen} j h s = omega (arith, s.whole, ap (further_from n) (ap (λ i. drop i all) h ∙ drop-length all))
+  pub none_more : (k ≡ 4 → ⊥) → all_sets (take (j + 1) qs) ≡ all_sets (take j qs)
+  none_more isnt = omega (arith, alls_step, all_none k isnt)
 
 module _ {ws : List ℤ} {shape : Shape} (s : Sound ws shape) where
   pub regions_known : 1 * 2 ^ shape.sets % 2 ^ 64 ≡ region_count (claim_of ws)
@@ -124,6 +93,10 @@ module _ {ws : List ℤ} {shape : Shape} (s : Sound ws shape) where
 
   pub regions_few : 1 * 2 ^ shape.sets % 2 ^ 64 ≤ 2 ^ max_sets
   regions_few = rw (regions_are shape.sets s.few_sets) (pow-le-pow_right {n = 2} (omega arith) s.few_sets)
+
+pub alls_start : (qs : List Quantifier) → all_sets (take 0 qs) ≡ 0
+unfolding all_sets
+alls_start qs = refl
 
 -- ---- the whole
 

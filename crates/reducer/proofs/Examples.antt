@@ -7,7 +7,7 @@ use lib.IntN.{pos}
 use Rattle.checker.specs.Kinds.{number, node_of, quantifier_of}
 use Rattle.checker.specs.Words.{word_at, claim_of, node_words, nodes_words, words_of}
 use Rattle.region.specs.Regions.{covered}
-use Rattle.emission.specs.Emission.{start, with_number, with_set, inside_all, becomes, emit_quantifiers, sum_run, card_run, amount_run, both_run, run_of, pattern_of, emit_node, emit_nodes, five, further_fives, constraint, split_run, join_some, join_all, close, body, emission}
+use Rattle.emission.specs.Emission.{start, with_number, with_set, inside_all, becomes, emit_quantifiers, sum_run, card_run, empty_run, both_run, run_of, pattern_of, emit_node, emit_nodes, five, further_fives, constraint, split_run, join_some, join_all, close, body, emission}
 
 pub record Example : Type 0 where
   pub claim : List ℕ
@@ -41,5 +41,5 @@ AllRight [] = Unit {0}
 AllRight (e ∷ es) = (words_of (emission (claim_of (map pos e.claim))) ≡ map pos e.table) × AllRight es
 
 pub examples_right : AllRight examples
-unfolding number node_of quantifier_of word_at claim_of node_words nodes_words words_of covered start with_number with_set inside_all becomes emit_quantifiers sum_run card_run amount_run both_run run_of pattern_of emit_node emit_nodes five further_fives constraint split_run join_some join_all close body emission
+unfolding number node_of quantifier_of word_at claim_of node_words nodes_words words_of covered start with_number with_set inside_all becomes emit_quantifiers sum_run card_run empty_run both_run run_of pattern_of emit_node emit_nodes five further_fives constraint split_run join_some join_all close body emission
 examples_right = (refl, (refl, (refl, (refl, (refl, tt)))))

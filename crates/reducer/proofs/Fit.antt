@@ -8,12 +8,12 @@ use native.Mathlib.Omega.{arith}
 use lib.IntN.{pos}
 use lib.ListN.{length, get_or, length-append}
 use Rattle.checker.specs.declared.Sort.TheVariants.{ATerm, AFormula}
-use Rattle.checker.specs.Claim.{Node, Quantifier, set_var, empty, whole, union, inter, compl, num_var, const, maxc, sum, diff, multiple, card, equal, less, divided, setEqual, subset, conj, disj, neg, unknown, intQ, set_q, countQ}
+use Rattle.checker.specs.Claim.{Node, Quantifier, set_var, empty, whole, union, inter, compl, num_var, const, maxc, sum, diff, multiple, card, equal, less, divided, setEqual, subset, conj, disj, neg, unknown, intQ, setQ, countQ}
 use Rattle.checker.specs.Sorts.{Is, is_set_q, Binds, Fits, AllFit, sets}
 use Rattle.region.specs.Regions.{minus}
-use Rattle.emission.specs.Emission.{Place, region_node, Frame, none, sum_run, card_run, last, amount_run, both_run, run_of, Emitted, emit_node, emit_nodes, size, counts}
+use Rattle.emission.specs.Emission.{Place, region_node, Frame, none, sum_run, card_run, last, empty_run, both_run, run_of, Emitted, emit_node, emit_nodes, size, counts}
 use Rattle.reducer.proofs.Runs.{Below, covered_below}
-use Rattle.reducer.proofs.Stands.{is_more, is_new, region_sort, card_tail, amount_tail, tail_is, Shaped, run_at, shaped_step}
+use Rattle.reducer.proofs.Stands.{is_more, is_new, region_sort, card_tail, empty_tail, tail_is, Shaped, run_at, shaped_step}
 use Rattle.reducer.proofs.Frames.{Placed, Framed}
 
 pub fit_append : (qs : List Quantifier) (xs done ys : List Node) → AllFit qs done xs → AllFit qs (done ++ xs) ys → AllFit qs done (xs ++ ys)
@@ -23,7 +23,7 @@ fit_append qs (x ∷ xs) done ys (h, hs) k = (h, fit_append qs xs (done ++ x ∷
 numbers_only : (qs : List Quantifier) → sets qs ≡ 0 → (i : ℕ) → is_set_q (get_or qs i (intQ true)) ≡ false
 unfolding sets
 numbers_only [] h i = refl
-numbers_only (set_q one some ∷ qs) h i = absurd (omega arith)
+numbers_only (setQ some ∷ qs) h i = absurd (omega arith)
 numbers_only (intQ some ∷ qs) h zero = refl
 numbers_only (intQ some ∷ qs) h (suc i) = numbers_only qs h i
 numbers_only (countQ some ∷ qs) h zero = refl
@@ -61,10 +61,9 @@ module _ (qs : List Quantifier) (free : sets qs ≡ 0) where
           (omega (arith, length-append done (region_node p r ∷ []))),
     )
 
-    pub amount_fits : (c : ℕ) (rs : List ℕ) → Below n rs → (done : List Node) (k : ℕ) → k ≡ length done
-        → AllFit qs done (amount_run c p k rs)
-    unfolding amount_run
-    amount_fits c rs b done k l =
+    empty_fits : (rs : List ℕ) → Below n rs → (done : List Node) (k : ℕ) → k ≡ length done → AllFit qs done (empty_run p k rs)
+    unfolding empty_run
+    empty_fits rs b done k l =
         let run = card_run p k rs in
         let end = done ++ run in
         let there : k + length run ≡ length end = omega (arith, length-append done run) in
@@ -72,8 +71,8 @@ module _ (qs : List Quantifier) (free : sets qs ≡ 0) where
           tt,
           (
             (
-              is_more end (const (pos c) ∷ []) (last k run) (subst (λ m. Is ATerm end (last m run)) (sym l) (tail_is done run (card_tail p k rs))),
-              is_new end (const (pos c)) (k + length run) there,
+              is_more end (const (pos 0) ∷ []) (last k run) (subst (λ m. Is ATerm end (last m run)) (sym l) (tail_is done run (card_tail p k rs))),
+              is_new end (const (pos 0)) (k + length run) there,
             ),
             tt,
           ),
@@ -82,17 +81,17 @@ module _ (qs : List Quantifier) (free : sets qs ≡ 0) where
     both_fits : (rs ss : List ℕ) → Below n rs → Below n ss → (done : List Node) (k : ℕ) → k ≡ length done → AllFit qs done (both_run p k rs ss)
     unfolding both_run
     both_fits rs ss b d done k l =
-        let one = amount_run 0 p k rs in
+        let one = empty_run p k rs in
         let m = k + length one in
-        let two = amount_run 0 p m ss in
+        let two = empty_run p m ss in
         let there : m ≡ length (done ++ one) = omega (arith, length-append done one) in
         fit_append qs (one ++ two) done _
-        (fit_append qs one done two (amount_fits 0 rs b done k l) (amount_fits 0 ss d (done ++ one) m there)) (
+        (fit_append qs one done two (empty_fits rs b done k l) (empty_fits ss d (done ++ one) m there)) (
           (
             subst (λ l. Is AFormula l (last k one)) (append_assoc done one two)
-                (is_more (done ++ one) two (last k one) (subst (λ x. Is AFormula (done ++ one) (last x one)) (sym l) (tail_is done one (amount_tail 0 p k rs)))),
+                (is_more (done ++ one) two (last k one) (subst (λ x. Is AFormula (done ++ one) (last x one)) (sym l) (tail_is done one (empty_tail p k rs)))),
             subst (λ l. Is AFormula l (last m two)) (append_assoc done one two)
-                (subst (λ x. Is AFormula ((done ++ one) ++ two) (last x two)) (sym there) (tail_is (done ++ one) two (amount_tail 0 p m ss))),
+                (subst (λ x. Is AFormula ((done ++ one) ++ two) (last x two)) (sym there) (tail_is (done ++ one) two (empty_tail p m ss))),
           ),
           tt,
         )
@@ -126,7 +125,7 @@ module _ (qs : List Quantifier) (free : sets qs ≡ 0) where
         both_fits f.place f.regions regions_fit _ _ (covered_below f.regions (minus (get_or e.patterns a none) (get_or e.patterns b none)))
         (covered_below f.regions (minus (get_or e.patterns b none) (get_or e.patterns a none))) e.nodes (length e.nodes) refl
     run_fits done e (subset a b) sh i =
-        amount_fits f.place f.regions regions_fit 0 _ (covered_below f.regions (minus (get_or e.patterns a none) (get_or e.patterns b none))) e.nodes (length e.nodes) refl
+        empty_fits f.place f.regions regions_fit _ (covered_below f.regions (minus (get_or e.patterns a none) (get_or e.patterns b none))) e.nodes (length e.nodes) refl
     run_fits done e (conj a b) sh (i, j) = ((sh.placed AFormula tt a i, sh.placed AFormula tt b j), tt)
     run_fits done e (disj a b) sh (i, j) = ((sh.placed AFormula tt a i, sh.placed AFormula tt b j), tt)
     run_fits done e (neg a) sh i = (sh.placed AFormula tt a i, tt)

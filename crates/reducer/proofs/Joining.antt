@@ -1,7 +1,7 @@
 -- The constraints one quantifier further, from the innermost to the outermost.
 -- Assumes nothing.
-use mathlib.Core.Path.{◌≡◌, refl, sym, ap, ap₂, ◌∙◌}
-use mathlib.Core.Bool.{Bool, true, false, false≢true}
+use mathlib.Core.Path.{◌≡◌, refl, sym, ap, ◌∙◌}
+use mathlib.Core.Bool.{Bool, true, false}
 use mathlib.Core.List.{List, [], ◌∷◌, ◌++◌, append_assoc}
 use Prim.Native.Nat.{ℕ, ◌+◌, ◌*◌, ◌-◌, ◌^◌, ◌≤◌, ◌<◌}
 use native.Mathlib.Nat.{pow-le-pow_right}
@@ -10,23 +10,23 @@ use lib.IntN.{ℤ, pos}
 use lib.ListN.{length, get_or, take, drop, length-append, take-append-drop}
 use lib.Seq.{drop-append_seam, drop-length}
 use Rattle.checker.specs.declared.Shape.{Shape}
-use Rattle.checker.specs.Claim.{Node, conj, disj, neg, Quantifier, intQ, set_q, countQ, Claim}
-use Rattle.checker.specs.Kinds.{quantifier_of}
+use Rattle.checker.specs.Claim.{Node, conj, disj, neg, Quantifier, intQ, setQ, countQ, Claim}
+use Rattle.checker.specs.Kinds.{number, quantifier_of}
 use Rattle.checker.specs.Words.{word_at, claim_of}
-use Rattle.checker.specs.Sorts.{is_set_q, is_some, is_one, sets}
+use Rattle.checker.specs.Sorts.{is_set_q, sets}
 use Rattle.checker.specs.Check.{max_quantifiers, max_sets}
 use Rattle.emission.specs.declared.Frame as code
-use Rattle.emission.specs.Emission.{Place, size, counts, Frame, start, inside, inside_all, last, Body, split_run, port_run, constraint_run, join_some, join_all, join, close, body, emission}
+use Rattle.emission.specs.Emission.{Place, size, counts, Frame, start, inside, inside_all, last, Body, split_run, join_some, join_all, join, close, body, emission}
 use Rattle.emission.specs.Plan.{first_of, Says, frame_at}
 use Rattle.emission.specs.Write.{max_number, Room, WroteNodes}
 use Rattle.checker.proofs.Claims.{Sound, sound}
 use Rattle.emission.proofs.Claims.{quantifier_at_lem}
 use Rattle.emission.proofs.Steps.{next_dropped, inside_step}
 use Rattle.emission.proofs.Writing.{nodes_after, nodes_none, room_part}
-use Rattle.emission.proofs.Frames.{says_small, regions_are, place_is}
+use Rattle.emission.proofs.Frames.{says_small, regions_are, place_is, kind_number}
 use Rattle.emission.specs.declared.Body as kept
 use Rattle.reducer.specs.Sizes.{constraint_part}
-use Rattle.reducer.specs.Closing.{Prepared, constraint_in, port_in, limit_in, Within, closed_from, added, Tells}
+use Rattle.reducer.specs.Closing.{Prepared, constraint_in, Within, closed_from, added, Tells}
 use Rattle.reducer.proofs.Frames.{Placed, framed_start, framed_all}
 use Rattle.reducer.proofs.Bodies.{Rooted, close_rooted}
 use Rattle.reducer.proofs.Sizes.{close_starts, starts_with}
@@ -47,10 +47,6 @@ module _ {qs : List Quantifier} {f : code.Frame} (s : Says qs f) where
   split_is : (k : ℕ) → split_run (inside_all start qs) k ≡ constraint_in f k
   unfolding split_run constraint_in
   split_is k = rw (place_is s, regions_are qs, s.next, s.level)
-
-  limit_is : (one : Bool) (k : ℕ) → constraint_run one (inside_all start qs) k ≡ limit_in one f k
-  limit_is false k = split_is k
-  limit_is true k = unfold port_run port_in in rw (split_is k, regions_are qs, s.next, s.level)
 
 within : (qs : List Quantifier) (j : ℕ) {f : code.Frame} → length qs ≤ max_quantifiers → sets qs ≤ max_sets → Says (take j qs) f → Within f
 within qs j {f} l m s =
@@ -78,21 +74,18 @@ added_all run b =
     ap (drop (length b.nodes)) (append_assoc b.nodes run _) ∙ drop-append_seam b.nodes _ ∙ rw (e, length-append)
 
 -- the last node is the body
-join_root : (f : Frame) (one some : Bool) (b : Body) → (join f (set_q one some) b).root ≡ length (join f (set_q one some) b).nodes - 1
+join_root : (f : Frame) (some : Bool) (b : Body) → (join f (setQ some) b).root ≡ length (join f (setQ some) b).nodes - 1
 unfolding join_some join_all
-join_root f one true b = simp length-append (omega arith)
-join_root f one false b = simp length-append (omega arith)
+join_root f true b = simp length-append (omega arith)
+join_root f false b = simp length-append (omega arith)
 
 join_none : (f : Frame) (q : Quantifier) (b : Body) → is_set_q q ≡ false → join f q b ≡ b
 join_none f (intQ some) b e = refl
-join_none f (set_q one some) b e = let z : ◌≡◌ {A = ℕ} 0 1 = cc in absurd (omega arith)
+join_none f (setQ some) b e = let z : ◌≡◌ {A = ℕ} 0 1 = cc in absurd (omega arith)
 join_none f (countQ some) b e = refl
 
--- a set quantifier by what is known of it
-pub set_known : (q : Quantifier) {one some : Bool} → is_set_q q ≡ true → is_some q ≡ some → is_one q ≡ one → q ≡ set_q one some
-set_known (intQ a) s e o = absurd (false≢true s)
-set_known (set_q b a) s e o = ap₂ set_q o e
-set_known (countQ a) s e o = absurd (false≢true s)
+pub other_kind : (k : ℕ) → (k ≡ 3 → ⊥) → (k ≡ 4 → ⊥) → 3 ≤ k → k < 5 → ⊥
+other_kind k n m l h = omega arith
 
 -- ---- quantifier by quantifier
 
@@ -208,61 +201,60 @@ module _ {ws : List ℤ} {shape : Shape} {plan : List ℕ} (p : Prepared ws shap
     set_after : {q : Quantifier} → quantifier claim j ≡ q → after ≡ join (frame claim j) q before
     set_after e = closed_step claim j in_claim ∙ ap (λ q. join (frame claim j) q before) e
 
-    -- quantifier j as a set quantifier
-    pub set_kind : (k : ℕ) {one some : Bool} → k ≡ word_at ws (3 * shape.nodes + j) → is_set_q (quantifier_of (pos k)) ≡ true
-        → is_some (quantifier_of (pos k)) ≡ some → is_one (quantifier_of (pos k)) ≡ one → quantifier claim j ≡ set_q one some
-    set_kind k e s a o = kind_is k (sym e) ∙ set_known (quantifier_of (pos k)) s a o
-
-    number_after : (k : ℕ) → k ≡ word_at ws (3 * shape.nodes + j) → is_set_q (quantifier_of (pos k)) ≡ false → after ≡ before
+    number_after : (k : ℕ) → k ≡ word_at ws (3 * shape.nodes + j) → (3 ≤ k → k < 5 → ⊥) → after ≡ before
     number_after k e n =
         closed_step claim j in_claim
-        ∙ join_none (frame claim j) (quantifier claim j) before (ap is_set_q (kind_is k (sym e)) ∙ n)
+        ∙ join_none (frame claim j) (quantifier claim j) before (ap is_set_q (kind_is k (sym e)) ∙ kind_number k n)
 
-    module _ {k : kept.Body} (t : Tells before k) {f : code.Frame} (e : f ≡ frame_at plan j) (one : Bool) where
+    module _ {k : kept.Body} (t : Tells before k) {f : code.Frame} (e : f ≡ frame_at plan j) where
       abbrev run : List Node
-      run = limit_in one f k.nodes
+      run = constraint_in f k.nodes
 
-      some_added : quantifier claim j ≡ set_q one true → added before after ≡ run ++ conj (last k.nodes run) k.root ∷ []
-      some_added q =
-          ap (added before) (set_after q) ∙ added_some (constraint_run one (frame claim j) (length before.nodes)) before
-          ∙ rw (limit_is (frame_says e) one, ← t.nodes, ← t.root)
+      some_added : word_at ws (3 * shape.nodes + j) ≡ 3 → added before after ≡ run ++ conj (last k.nodes run) k.root ∷ []
+      unfolding quantifier_of number
+      some_added w =
+          ap (added before) (set_after (kind_is 3 w)) ∙ added_some (split_run (frame claim j) (length before.nodes)) before
+          ∙ rw (split_is (frame_says e), ← t.nodes, ← t.root)
 
-      all_added : quantifier claim j ≡ set_q one false
+      all_added : word_at ws (3 * shape.nodes + j) ≡ 4
           → added before after ≡ run ++ neg (last k.nodes run) ∷ disj (k.nodes + length run) k.root ∷ []
-      all_added q =
-          ap (added before) (set_after q) ∙ added_all (constraint_run one (frame claim j) (length before.nodes)) before
-          ∙ rw (limit_is (frame_says e) one, ← t.nodes, ← t.root)
+      unfolding quantifier_of number
+      all_added w =
+          ap (added before) (set_after (kind_is 4 w)) ∙ added_all (split_run (frame claim j) (length before.nodes)) before
+          ∙ rw (split_is (frame_says e), ← t.nodes, ← t.root)
 
       -- what is asked before a constraint is joined
       pub root_small : {l : List ℤ} {n : ℕ} → Room l k.nodes n → k.root ≤ max_number
       root_small room = omega (arith, rooted (j + 1), t.nodes, t.root, room.numbers)
 
       -- and what is known after it, the last node being the body
-      done : {l l' : List ℤ} {r : kept.Body} (some : Bool) → quantifier claim j ≡ set_q one some → WroteNodes l k.nodes (added before after) l' r.nodes
+      done : {l l' : List ℤ} {r : kept.Body} (some : Bool) → quantifier claim j ≡ setQ some → WroteNodes l k.nodes (added before after) l' r.nodes
           → r.root ≡ r.nodes - 1 → Tells after r
       done {r = r} some q w root =
           let long : r.nodes ≡ length after.nodes =
           omega (arith, nodes_after w, t.nodes, ap length (closed_longer claim j in_claim), length-append before.nodes (added before after)) in
-          record { nodes = long; root = root ∙ ap (λ m. m - 1) long ∙ sym (rw (set_after q) (join_root (frame claim j) one some before)) }
+          record { nodes = long; root = root ∙ ap (λ m. m - 1) long ∙ sym (rw (set_after q) (join_root (frame claim j) some before)) }
 
-      module _ (q : quantifier claim j ≡ set_q one true) where
+      module _ (w : word_at ws (3 * shape.nodes + j) ≡ 3) where
         pub some_room : {l : List ℤ} → Room l k.nodes (length (added before after)) → Room l k.nodes (length run + 1)
-        some_room room = room_part _ (omega (arith, ap length (some_added q), length-append run (conj (last k.nodes run) k.root ∷ []))) room
+        some_room room = room_part _ (omega (arith, ap length (some_added w), length-append run (conj (last k.nodes run) k.root ∷ []))) room
 
         pub some_done : {l l' : List ℤ} {r : kept.Body} → WroteNodes l k.nodes (run ++ conj (last k.nodes run) k.root ∷ []) l' r.nodes
             → r.root ≡ r.nodes - 1 → Tells after r × WroteNodes l k.nodes (added before after) l' r.nodes
-        some_done put root = let wrote = rw (← some_added q) at put in (done true q wrote root, wrote)
+        unfolding quantifier_of number
+        some_done put root = let wrote = rw (← some_added w) at put in (done true (kind_is 3 w) wrote root, wrote)
 
-      module _ (q : quantifier claim j ≡ set_q one false) where
+      module _ (w : word_at ws (3 * shape.nodes + j) ≡ 4) where
         pub all_room : {l : List ℤ} → Room l k.nodes (length (added before after)) → Room l k.nodes (length run + 2)
         all_room room =
-            room_part _ (omega (arith, ap length (all_added q), length-append run (neg (last k.nodes run) ∷ disj (k.nodes + length run) k.root ∷ []))) room
+            room_part _ (omega (arith, ap length (all_added w), length-append run (neg (last k.nodes run) ∷ disj (k.nodes + length run) k.root ∷ []))) room
 
         pub all_done : {l l' : List ℤ} {r : kept.Body} → WroteNodes l k.nodes (run ++ neg (last k.nodes run) ∷ disj (k.nodes + length run) k.root ∷ []) l' r.nodes
             → r.root ≡ r.nodes - 1 → Tells after r × WroteNodes l k.nodes (added before after) l' r.nodes
-        all_done put root = let wrote = rw (← all_added q) at put in (done false q wrote root, wrote)
+        unfolding quantifier_of number
+        all_done put root = let wrote = rw (← all_added w) at put in (done false (kind_is 4 w) wrote root, wrote)
 
     -- a quantifier that binds a number adds nothing
-    pub number_done : {k : kept.Body} {l : List ℤ} (n : ℕ) → n ≡ word_at ws (3 * shape.nodes + j) → is_set_q (quantifier_of (pos n)) ≡ false → Tells before k
+    pub number_done : {k : kept.Body} {l : List ℤ} (n : ℕ) → n ≡ word_at ws (3 * shape.nodes + j) → (3 ≤ n → n < 5 → ⊥) → Tells before k
         → Tells after k × WroteNodes l k.nodes (added before after) l k.nodes
     number_done {k} {l} n e none t = rw (number_after n e none, drop-length before.nodes) (t, nodes_none l k.nodes)

@@ -19,7 +19,7 @@ use Rattle.region.specs.Regions.{minus, over, covered, regions}
 use Rattle.emission.specs.Emission.{Frame, none, last, run_of, pattern_of, Emitted, emit_node, emit_nodes}
 use Rattle.reducer.proofs.Lists.{new_at, old_at, at_each}
 use Rattle.reducer.proofs.Ends.{no_value, values-append, values_length, values_keep, Ends, ends_at, ends_one, amount}
-use Rattle.reducer.proofs.Runs.{total, covered_below, total_over, card_ends, amount_ends, both_ends}
+use Rattle.reducer.proofs.Runs.{total, covered_below, total_over, card_ends, empty_ends, both_ends}
 use Rattle.reducer.proofs.Stands.{Scalar, is_old, new_sort, Shaped, nothing, run_at, shaped_step}
 
 set_is : (us vs : List Value) (i j : ℕ) → get_or us i no_value ≡ get_or vs j no_value → set_at us i ≡ set_at vs j
@@ -101,7 +101,7 @@ module _ (w : World) (qs : List Quantifier) (f : Frame) (us vs : List Value) (cs
         (both_ends w us f.place f.regions (λ r. get_or cs r 0) m.amounts _ _ (covered_below f.regions (minus (pat a) (pat b))) (covered_below f.regions (minus (pat b) (pat a))) (outs e) k l)
     run_ends (subset a b) s (i, j) k l =
         ends_is (ap (λ x. truth (eqb x 0)) (minuses a b i j))
-        (amount_ends w us f.place f.regions (λ r. get_or cs r 0) m.amounts 0 _ (covered_below f.regions (minus (pat a) (pat b))) (outs e) k l)
+        (empty_ends w us f.place f.regions (λ r. get_or cs r 0) m.amounts _ (covered_below f.regions (minus (pat a) (pat b))) (outs e) k l)
     run_ends (conj a b) s (i, j) k l = ends_one w us (ap₂ (λ x y. truth (x && y)) (truths a i) (truths b j))
     run_ends (disj a b) s (i, j) k l = ends_one w us (ap₂ (λ x y. truth (x || y)) (truths a i) (truths b j))
     run_ends (neg a) s i k l = ends_one w us (ap (λ x. truth (not x)) (truths a i))

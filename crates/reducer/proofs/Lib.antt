@@ -23,7 +23,6 @@ pub mod Unchanged
 pub mod HandedBack
 pub mod Accepted
 pub mod SetLimit
-pub mod WithoutPorts
 pub mod Examples
 -- The code: the constraints in the parts in which they are written (Constraints), one quantifier further (Closing).
 pub mod Constraints

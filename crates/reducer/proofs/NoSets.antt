@@ -1,16 +1,15 @@
 -- The emission has no set nodes and no set quantifiers.
 -- Assumes nothing.
 use mathlib.Core.Path.{◌≡◌, refl}
-use mathlib.Core.Bool.{Bool, true, false}
+use mathlib.Core.Bool.{true, false}
 use mathlib.Core.List.{List, [], ◌∷◌, ◌++◌}
 use Prim.Native.Nat.{ℕ, zero, suc, ◌+◌, ◌*◌, ◌-◌}
 use lib.ListN.{length}
-use Rattle.checker.specs.Claim.{Node, Quantifier, Claim, set_var, empty, whole, union, inter, compl, num_var, const, maxc, sum, diff, multiple, card, equal, less, divided, setEqual, subset, conj, disj, neg, unknown, intQ, set_q, countQ}
+use Rattle.checker.specs.Claim.{Node, Quantifier, Claim, set_var, empty, whole, union, inter, compl, num_var, const, maxc, sum, diff, multiple, card, equal, less, divided, setEqual, subset, conj, disj, neg, unknown, intQ, setQ, countQ}
 use Rattle.checker.specs.Kinds.{is_set}
 use Rattle.checker.specs.Sorts.{sort, sets}
 use Rattle.checker.specs.Meaning.{Set}
-use Rattle.region.specs.Regions.{odd, dbl, covered}
-use Rattle.emission.specs.Emission.{Place, region_node, Frame, start, inside_all, sum_run, card_run, last, amount_run, both_run, run_of, Emitted, emit_node, emit_nodes, five, further_fives, constraint, Body, split_run, port_run, constraint_run, join_some, join_all, join, body, emission, size, counts}
+use Rattle.emission.specs.Emission.{Place, region_node, Frame, start, inside_all, sum_run, card_run, last, empty_run, both_run, run_of, Emitted, emit_node, emit_nodes, five, further_fives, constraint, Body, split_run, join_some, join_all, join, body, emission, size, counts}
 use Rattle.reducer.specs.Sizes.{NoSetNodes}
 use Rattle.reducer.proofs.Stands.{nothing, run_at}
 use Rattle.reducer.proofs.Bodies.{close_keeps}
@@ -34,16 +33,16 @@ unfolding card_run
 card_no_set p [] k = (refl, tt)
 card_no_set p (r ∷ rs) k = (region_no_set p r, sum_no_set p rs k)
 
-amount_no_set : (c : ℕ) (p : Place) (rs : List ℕ) (k : ℕ) → NoSetNodes (amount_run c p k rs)
-unfolding amount_run
-amount_no_set c p rs k = no_set_append (card_run p k rs) _ (card_no_set p rs k) (refl, (refl, tt))
+empty_no_set : (p : Place) (rs : List ℕ) (k : ℕ) → NoSetNodes (empty_run p k rs)
+unfolding empty_run
+empty_no_set p rs k = no_set_append (card_run p k rs) _ (card_no_set p rs k) (refl, (refl, tt))
 
 both_no_set : (p : Place) (rs ss : List ℕ) (k : ℕ) → NoSetNodes (both_run p k rs ss)
 unfolding both_run
 both_no_set p rs ss k =
-    let one = amount_run 0 p k rs in
-    let two = amount_run 0 p (k + length one) ss in
-    no_set_append (one ++ two) (conj (last k one) (last (k + length one) two) ∷ []) (no_set_append one two (amount_no_set 0 p rs k) (amount_no_set 0 p ss (k + length one))) (refl, tt)
+    let one = empty_run p k rs in
+    let two = empty_run p (k + length one) ss in
+    no_set_append (one ++ two) (conj (last k one) (last (k + length one) two) ∷ []) (no_set_append one two (empty_no_set p rs k) (empty_no_set p ss (k + length one))) (refl, tt)
 
 run_no_set : (f : Frame) (k : ℕ) (st : ℕ → ℕ) (pat : ℕ → Set) (n : Node) → NoSetNodes (run_of f k st pat n)
 unfolding run_of
@@ -64,7 +63,7 @@ run_no_set f k st pat (equal a b) = (refl, tt)
 run_no_set f k st pat (less a b) = (refl, tt)
 run_no_set f k st pat (divided c b) = (refl, tt)
 run_no_set f k st pat (setEqual a b) = both_no_set f.place _ _ k
-run_no_set f k st pat (subset a b) = amount_no_set 0 f.place _ k
+run_no_set f k st pat (subset a b) = empty_no_set f.place _ k
 run_no_set f k st pat (conj a b) = (refl, tt)
 run_no_set f k st pat (disj a b) = (refl, tt)
 run_no_set f k st pat (neg a) = (refl, tt)
@@ -93,26 +92,15 @@ split_no_set : (f : Frame) (k : ℕ) → NoSetNodes (split_run f k)
 unfolding split_run
 split_no_set f k = constraint_no_set f.place (counts f.next) k f.regions
 
-port_no_set : (f : Frame) (k : ℕ) → NoSetNodes (port_run f k)
-unfolding port_run
-port_no_set f k =
-    let one = split_run f k in
-    let two = amount_run 1 (counts f.next) (k + length one) (covered 0 (dbl f.regions) odd) in
-    no_set_append (one ++ two) (conj (last k one) (last (k + length one) two) ∷ []) (no_set_append one two (split_no_set f k) (amount_no_set 1 _ _ (k + length one))) (refl, tt)
-
-limit_no_set : (one : Bool) (f : Frame) (k : ℕ) → NoSetNodes (constraint_run one f k)
-limit_no_set false f k = split_no_set f k
-limit_no_set true f k = port_no_set f k
-
 join_no_set : (f : Frame) (q : Quantifier) (b : Body) → NoSetNodes b.nodes → NoSetNodes (join f q b).nodes
 unfolding join_some join_all
 join_no_set f (intQ some) b h = h
-join_no_set f (set_q one true) b h =
-    let nodes = b.nodes ++ constraint_run one f (length b.nodes) in
-    no_set_append nodes (conj (last 0 nodes) b.root ∷ []) (no_set_append b.nodes _ h (limit_no_set one f _)) (refl, tt)
-join_no_set f (set_q one false) b h =
-    let nodes = b.nodes ++ constraint_run one f (length b.nodes) in
-    no_set_append nodes (neg (last 0 nodes) ∷ disj (length nodes) b.root ∷ []) (no_set_append b.nodes _ h (limit_no_set one f _)) (refl, (refl, tt))
+join_no_set f (setQ true) b h =
+    let nodes = b.nodes ++ split_run f (length b.nodes) in
+    no_set_append nodes (conj (last 0 nodes) b.root ∷ []) (no_set_append b.nodes _ h (split_no_set f _)) (refl, tt)
+join_no_set f (setQ false) b h =
+    let nodes = b.nodes ++ split_run f (length b.nodes) in
+    no_set_append nodes (neg (last 0 nodes) ∷ disj (length nodes) b.root ∷ []) (no_set_append b.nodes _ h (split_no_set f _)) (refl, (refl, tt))
 join_no_set f (countQ some) b h = h
 
 pub emission_no_set_nodes : (c : Claim) → NoSetNodes (emission c).nodes

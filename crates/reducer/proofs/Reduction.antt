@@ -3,21 +3,18 @@
 use mathlib.Core.Path.{◌≡◌, refl, sym, ◌∙◌, ap, subst}
 use mathlib.Core.Logic.Iff
 use mathlib.Core.Logic.{◌↔◌}
-use mathlib.Core.Bool.{Bool, true, false}
+use mathlib.Core.Bool.{Bool, true}
 use mathlib.Core.List.{List, [], ◌∷◌, ◌++◌, append_assoc, append-nil}
 use Prim.Native.Nat.{ℕ}
-use borrow.Author.Tests.{eqb-true, eq-eqb}
-use lib.Dec.{eqb}
 use lib.IntN.{ℤ, pos}
 use lib.ListN.{length}
 use Rattle.checker.specs.declared.Sort.TheVariants.{AFormula}
-use Rattle.checker.specs.Claim.{Quantifier, Claim, intQ, set_q, countQ}
+use Rattle.checker.specs.Claim.{Quantifier, Claim, intQ, setQ, countQ}
 use Rattle.checker.specs.Words.{claim_of, words_of}
 use Rattle.checker.specs.Sorts.{WellSorted}
-use Rattle.checker.specs.Meaning.{Value, as_truth, truth_at, World, matrix, ports, Admits, TrueAt, num}
+use Rattle.checker.specs.Meaning.{Value, as_truth, truth_at, World, matrix, ports, TrueAt, num}
 use Rattle.checker.proofs.Words.{claim_words}
-use Rattle.checker.proofs.Bools.{both}
-use Rattle.region.specs.Regions.{odd, dbl, Split, over, regions}
+use Rattle.region.specs.Regions.{dbl, Split, regions}
 use Rattle.region.specs.Counting.{grow, HoldsR, TrueAtR}
 use Rattle.region.proofs.Regions.{split_doubles}
 use Rattle.region.proofs.Quantified.{quantified_same}
@@ -25,9 +22,9 @@ use Rattle.region.proofs.Counting.{theorem_a}
 use Rattle.emission.specs.Emission.{Frame, start, with_number, with_set, inside_all, becomes, emit_quantifiers, Body, close, body, emission}
 use Rattle.reducer.proofs.Stands.{nothing, shaped_none, shaped_all}
 use Rattle.reducer.proofs.Kept.{Final, kept_none, kept_all}
-use Rattle.reducer.proofs.Bodies.{says, Rooted, guarded, tested, says-join, close_rooted}
+use Rattle.reducer.proofs.Bodies.{says, Rooted, guarded, says-join, close_rooted}
 use Rattle.reducer.proofs.Splits.{splits, splits_make, splits_true}
-use Rattle.reducer.proofs.Bindings.{no_sets_emit, counts_of, Bound, bound_start, bound_number, bound_set, parts_are, held_is, bound_final}
+use Rattle.reducer.proofs.Bindings.{no_sets_emit, counts_of, Bound, bound_start, bound_number, bound_set, held_is, bound_final}
 use Rattle.reducer.proofs.Blocks.{Inner, one_set}
 
 -- ---- the matrix
@@ -44,14 +41,6 @@ body_says c h w us vs cs m =
     (kept_none w c.quantifiers (inside_all start c.quantifiers) us vs cs m)).others AFormula tt c.root h.1)
 
 -- ---- truth
-
-tested_true : (one t : Bool) (n : ℕ) → t ≡ true → Admits one n → tested one t n ≡ true
-tested_true false t n e a = e
-tested_true true t n e a = rw (e, eq-eqb n 1 a)
-
-tested_both : (one t : Bool) (n : ℕ) → tested one t n ≡ true → (t ≡ true) × Admits one n
-tested_both false t n e = (e, tt)
-tested_both true t n e = let (a, b) = both t (eqb n 1) e in (a, eqb-true n 1 b)
 
 module _ (N : ℕ) (c : Claim) (sorted : WellSorted c) where
   -- Where the constraints of the bound quantifiers hold, the matrix says what the nodes before those say.
@@ -79,29 +68,22 @@ module _ (N : ℕ) (c : Claim) (sorted : WellSorted c) where
     next_rooted : Rooted next-body
     next_rooted = close_rooted qs (with_set f) (body c) (body_rooted c sorted)
 
-    -- what the constraint asks of the counts of the parts
-    abbrev passed : Bool → List ℕ → Bool
-    passed one ls = tested one (splits f.regions cs ls) (over odd ls)
-
-    set_says : (one some : Bool) → Says f (set_q one some ∷ qs) us → (ls : List ℕ) → length ls ≡ dbl f.regions → (more : List Value)
-        → matrix (ports N) (emission c) ((us ++ counts_of ls) ++ more) ≡ guarded some (passed one ls) (says (ports N) ((us ++ counts_of ls) ++ more) next-body)
+    set_says : (some : Bool) → Says f (setQ some ∷ qs) us → (ls : List ℕ) → length ls ≡ dbl f.regions → (more : List Value)
+        → matrix (ports N) (emission c) ((us ++ counts_of ls) ++ more) ≡ guarded some (splits f.regions cs ls) (says (ports N) ((us ++ counts_of ls) ++ more) next-body)
     unfolding close
-    set_says one some h ls l more =
-        more_says f (set_q one some ∷ qs) us (counts_of ls) h more
-        ∙ says-join (ports N) ((us ++ counts_of ls) ++ more) f b.some ls l (parts_are (ports N) done f us vs cs b ls l more) one some next-body next_rooted
-        ∙ ap (λ t. guarded some (tested one t (over odd ls)) (says (ports N) ((us ++ counts_of ls) ++ more) next-body)) (held_is (ports N) done f us vs cs b ls l more)
+    set_says some h ls l more =
+        more_says f (setQ some ∷ qs) us (counts_of ls) h more
+        ∙ says-join (ports N) ((us ++ counts_of ls) ++ more) f b.some some next-body next_rooted
+        ∙ ap (λ t. guarded some t (says (ports N) ((us ++ counts_of ls) ++ more) next-body)) (held_is (ports N) done f us vs cs b ls l more)
 
     split_long : (ls : List ℕ) → Split cs ls → length ls ≡ dbl f.regions
     split_long ls s = split_doubles cs ls s ∙ ap dbl b.long
 
-    abbrev Good : Bool → List ℕ → Type 0
-    Good one ls = Split cs ls × Admits one (over odd ls)
+    split_passes : (ls : List ℕ) → Split cs ls → splits f.regions cs ls ≡ true
+    split_passes ls s = splits_make f.regions cs ls b.long s
 
-    split_passes : (one : Bool) (ls : List ℕ) → Good one ls → passed one ls ≡ true
-    split_passes one ls g = tested_true one _ (over odd ls) (splits_make f.regions cs ls b.long g.0) g.1
-
-    split_good : (one : Bool) (ls : List ℕ) → length ls ≡ dbl f.regions → passed one ls ≡ true → Good one ls
-    split_good one ls l e = let t = tested_both one (splits f.regions cs ls) (over odd ls) e in (splits_true f.regions cs ls b.long l t.0, t.1)
+    split_good : (ls : List ℕ) → length ls ≡ dbl f.regions → splits f.regions cs ls ≡ true → Split cs ls
+    split_good ls l e = splits_true f.regions cs ls b.long l e
 
   reduction : (qs done : List Quantifier) (f : Frame) (us vs : List Value) (cs : List ℕ) → Bound (ports N) done f us vs cs
       → done ++ qs ≡ c.quantifiers → inside_all f qs ≡ inside_all start c.quantifiers → Says f qs us
@@ -111,13 +93,13 @@ module _ (N : ℕ) (c : Claim) (sorted : WellSorted c) where
   reduction (intQ some ∷ qs) done f us vs cs b d i h =
       quantified_same some (λ k. reduction qs (done ++ intQ some ∷ []) (with_number f) (us ++ num k ∷ []) (vs ++ num k ∷ []) cs
       (bound_number (ports N) done f us vs cs b (intQ some) k) (append_assoc done (intQ some ∷ []) qs ∙ d) i (more_says (with_number f) qs us (num k ∷ []) h))
-  reduction (set_q one some ∷ qs) done f us vs cs b d i h =
+  reduction (setQ some ∷ qs) done f us vs cs b d i h =
       one_set N (emission c) (dbl f.regions) (emit_quantifiers (with_set f) qs) (no_sets_emit qs (with_set f)) us (λ ws. says (ports N) ws (close (with_set f) qs (body c)))
-      (λ ls. tested one (splits f.regions cs ls) (over odd ls)) (λ ls. Split cs ls × Admits one (over odd ls)) (HoldsR c qs (grow vs))
-      (λ ls g. split_long done f us vs cs b qs ls g.0) (split_passes done f us vs cs b qs one) (split_good done f us vs cs b qs one) some
-      (λ ls s t. reduction qs (done ++ set_q one some ∷ []) (with_set f) (us ++ counts_of ls) (grow vs) ls
-      (bound_set (ports N) done f us vs cs b (set_q one some) refl ls s.0) (append_assoc done (set_q one some ∷ []) qs ∙ d) i t)
-      (set_says done f us vs cs b qs one some h)
+      (splits f.regions cs) (Split cs) (HoldsR c qs (grow vs))
+      (split_long done f us vs cs b qs) (split_passes done f us vs cs b qs) (split_good done f us vs cs b qs) some
+      (λ ls s t. reduction qs (done ++ setQ some ∷ []) (with_set f) (us ++ counts_of ls) (grow vs) ls
+      (bound_set (ports N) done f us vs cs b (setQ some) refl ls s) (append_assoc done (setQ some ∷ []) qs ∙ d) i t)
+      (set_says done f us vs cs b qs some h)
   reduction (countQ some ∷ qs) done f us vs cs b d i h =
       quantified_same some (λ k. reduction qs (done ++ countQ some ∷ []) (with_number f) (us ++ num (pos k) ∷ []) (vs ++ num (pos k) ∷ []) cs
       (bound_number (ports N) done f us vs cs b (countQ some) (pos k)) (append_assoc done (countQ some ∷ []) qs ∙ d) i (more_says (with_number f) qs us (num (pos k) ∷ []) h))

@@ -10,31 +10,14 @@ use native.Mathlib.Omega.{arith}
 use lib.Dec.{eqb}
 use lib.IntN.{pos, ◌+ℤ◌}
 use lib.ListN.{length, get_or, length-append}
-use Rattle.checker.specs.Claim.{Node, conj}
 use Rattle.checker.specs.Words.{tab}
 use Rattle.checker.specs.Meaning.{Set, Value, num_at, truth_at, eq_z, World, value_of, values, every, num, truth}
 use Rattle.region.specs.Regions.{part, over, covered}
-use Rattle.emission.specs.Emission.{Place, sum_run, card_run, last, amount_run, both_run, five, further_fives, constraint}
+use Rattle.emission.specs.Emission.{Place, sum_run, card_run, last, empty_run, both_run, five, further_fives, constraint}
 use Rattle.reducer.proofs.Lists.{new_at, old_at}
 use Rattle.reducer.proofs.Ends.{no_value, Ends, before-length, ends_step, ends_one, ends-append, ends_keep, amount, region_value, num_at_lem, truth_at_lem, sum_value}
 
 -- ---- cardinality
-
--- two runs, and then the `and` of what they end with
-pub joined_ends : (w : World) (us ws : List Value) (k : ℕ) → k ≡ length ws → (one two : List Node) {x y : Bool} → Ends w us ws one (truth x)
-    → ((vs : List Value) → k + length one ≡ length vs → Ends w us vs two (truth y))
-    → Ends w us ws (one ++ two ++ conj (last k one) (last (k + length one) two) ∷ []) (truth (x && y))
-unfolding value_of ends-append
-joined_ends w us ws k e one two {x} {y} o t =
-    let vs = o.before ++ truth x ∷ [] in
-    let m : ℕ = k + length one in
-    let here : m ≡ length vs = omega (arith, before-length w us o, length-append o.before (truth x ∷ [])) in
-    let u = t vs here in
-    let zs = u.before ++ truth y ∷ [] in
-    let left : truth_at zs (last k one) ≡ x =
-    truth_at_lem _ _ _ (ends_keep w us u (last k one) (omega (arith, before-length w us o)) ∙ new_at o.before (truth x) no_value _ (omega (arith, before-length w us o))) in
-    let right : truth_at zs (last m two) ≡ y = truth_at_lem _ _ _ (new_at u.before (truth y) no_value _ (omega (arith, before-length w us u))) in
-    ends-append w us (ends-append w us o u) (ends_one w us (ap₂ (λ s t. truth (s && t)) left right))
 
 -- f r for each r of rs, together
 unfoldable pub total : (ℕ → ℕ) → List ℕ → ℕ
@@ -96,27 +79,38 @@ module _ (w : World) (us : List Value) (p : Place) (n : ℕ) (f : ℕ → ℕ) (
   card_ends [] b ws k e = ends_one w us refl
   card_ends (r ∷ rs) (h, b) ws k e = ends_step w us (region_value w us ws p r ∙ ap num (are r h)) (sum_ends rs b ws (f r) k e)
 
-  -- the run that says that the regions have c ports
-  pub amount_ends : (c : ℕ) (rs : List ℕ) → Below n rs → (ws : List Value) (k : ℕ) → k ≡ length ws
-      → Ends w us ws (amount_run c p k rs) (truth (eqb (total f rs) c))
-  unfolding amount_run value_of
-  amount_ends c rs b ws k e =
-      let d = card_ends rs b ws k e in
-      let len = before-length w us d in
-      let vs = d.before ++ num (pos (total f rs)) ∷ [] in
+  pub empty_ends : (rs : List ℕ) → Below n rs → (ws : List Value) (k : ℕ) → k ≡ length ws → Ends w us ws (empty_run p k rs) (truth (eqb (total f rs) 0))
+  unfolding empty_run value_of
+  empty_ends rs b ws k e =
+      let c = card_ends rs b ws k e in
+      let len = before-length w us c in
+      let vs = c.before ++ num (pos (total f rs)) ∷ [] in
       let at = last k (card_run p k rs) in
-      let here : length vs ≡ k + length (card_run p k rs) = omega (arith, length-append d.before (num (pos (total f rs)) ∷ [])) in
-      let left : num_at (vs ++ num (pos c) ∷ []) at ≡ pos (total f rs) =
-      num_at_lem _ at _ (old_at vs (num (pos c) ∷ []) no_value at (omega arith) ∙ new_at d.before (num (pos (total f rs))) no_value at (omega arith)) in
-      let right : num_at (vs ++ num (pos c) ∷ []) (k + length (card_run p k rs)) ≡ pos c =
-      num_at_lem _ (k + length (card_run p k rs)) _ (new_at vs (num (pos c)) no_value _ (sym here)) in
-      ends-append w us d (ends_step w us refl (ends_one w us (ap₂ (λ x y. truth (eq_z x y)) left right)))
+      let here : length vs ≡ k + length (card_run p k rs) = omega (arith, length-append c.before (num (pos (total f rs)) ∷ [])) in
+      let left : num_at (vs ++ num (pos 0) ∷ []) at ≡ pos (total f rs) =
+      num_at_lem _ at _ (old_at vs (num (pos 0) ∷ []) no_value at (omega arith) ∙ new_at c.before (num (pos (total f rs))) no_value at (omega arith)) in
+      let right : num_at (vs ++ num (pos 0) ∷ []) (k + length (card_run p k rs)) ≡ pos 0 =
+      num_at_lem _ (k + length (card_run p k rs)) _ (new_at vs (num (pos 0)) no_value _ (sym here)) in
+      ends-append w us c (ends_step w us refl (ends_one w us (ap₂ (λ x y. truth (eq_z x y)) left right)))
 
   pub both_ends : (rs ss : List ℕ) → Below n rs → Below n ss → (ws : List Value) (k : ℕ) → k ≡ length ws
       → Ends w us ws (both_run p k rs ss) (truth (eqb (total f rs) 0 && eqb (total f ss) 0))
-  unfolding both_run
+  unfolding both_run value_of ends-append
   both_ends rs ss b d ws k e =
-      joined_ends w us ws k e (amount_run 0 p k rs) (amount_run 0 p (k + length (amount_run 0 p k rs)) ss) (amount_ends 0 rs b ws k e) (λ vs here. amount_ends 0 ss d vs (k + length (amount_run 0 p k rs)) here)
+      let one = empty_ends rs b ws k e in
+      let x : Bool = eqb (total f rs) 0 in
+      let y : Bool = eqb (total f ss) 0 in
+      let vs = one.before ++ truth x ∷ [] in
+      let m : ℕ = k + length (empty_run p k rs) in
+      let here : m ≡ length vs = omega (arith, before-length w us one, length-append one.before (truth x ∷ [])) in
+      let two = empty_ends ss d vs m here in
+      let zs = two.before ++ truth y ∷ [] in
+      let left : truth_at zs (last k (empty_run p k rs)) ≡ x =
+      truth_at_lem _ _ _ (ends_keep w us two (last k (empty_run p k rs)) (omega (arith, before-length w us one))
+      ∙ new_at one.before (truth x) no_value _ (omega (arith, before-length w us one))) in
+      let right : truth_at zs (last m (empty_run p m ss)) ≡ y =
+      truth_at_lem _ _ _ (new_at two.before (truth y) no_value _ (omega (arith, before-length w us two))) in
+      ends-append w us (ends-append w us one two) (ends_one w us (ap₂ (λ s t. truth (s && t)) left right))
 
 -- ---- constraints
 

@@ -3,14 +3,14 @@
 use mathlib.Core.Path.{◌≡◌, sym, ◌∙◌, ap, subst}
 use mathlib.Core.Bool.{true, false}
 use mathlib.Core.List.{List, [], ◌∷◌, ◌++◌, append_assoc, append-nil}
-use Prim.Native.Nat.{ℕ, suc, ◌+◌, ◌*◌, ◌-◌, ◌^◌, ◌<◌, ◌≤◌}
+use Prim.Native.Nat.{ℕ, ◌+◌, ◌*◌, ◌-◌, ◌^◌, ◌<◌, ◌≤◌}
 use native.Mathlib.Decide.{dec_le}
-use native.Mathlib.Nat.{zero-add, one-le-pow, one-mul, zero-mul, suc-mul, mul-le-mul, mul-one, mul_assoc, pow-succ'}
+use native.Mathlib.Nat.{zero-add, one-le-pow, one-mul, zero-mul, suc-mul, mul-le-mul}
 use native.Mathlib.Omega.{arith}
 use lib.ListN.{length, get_or, length-append, drop}
 use lib.Pow.{pow_mono}
 use lib.Seq.{drop-append_seam}
-use Rattle.checker.specs.Claim.{Node, Quantifier, Claim, intQ, set_q, countQ}
+use Rattle.checker.specs.Claim.{Node, Quantifier, Claim, intQ, setQ, countQ}
 use Rattle.checker.specs.Words.{words_of}
 use Rattle.checker.specs.Sorts.{sets}
 use Rattle.checker.specs.declared.Dialect.TheVariants as dialect
@@ -18,7 +18,7 @@ use Rattle.checker.specs.Dialect.{most_nodes, most_quantifiers}
 use Rattle.checker.specs.Check.{max_nodes, max_quantifiers, max_sets}
 use Rattle.checker.proofs.Words.{words-length}
 use Rattle.emission.specs.Emission.{Frame, none, start, inside_all, run_of, Emitted, emit_node, emit_nodes, Body, join_some, join_all, join, close, body, emission}
-use Rattle.emission.specs.Sizes.{all_sets, port_nodes}
+use Rattle.emission.specs.Sizes.{all_sets}
 use Rattle.emission.proofs.Lengths.{regions_power, quantifiers-length, run_short, close-length}
 use Rattle.reducer.specs.Sizes.{region_count, constraint_part}
 use Rattle.reducer.proofs.Stands.{nothing}
@@ -46,8 +46,8 @@ starts_more {xs} s zs = record { rest = s.rest ++ zs; is = ap (λ l. l ++ zs) s.
 join_starts : (xs : List Node) (f : Frame) (q : Quantifier) (b : Body) → Starts xs b.nodes → Starts xs (join f q b).nodes
 unfolding join_some join_all
 join_starts xs f (intQ some) b s = s
-join_starts xs f (set_q one true) b s = starts_more (starts_more s _) _
-join_starts xs f (set_q one false) b s = starts_more (starts_more s _) _
+join_starts xs f (setQ true) b s = starts_more (starts_more s _) _
+join_starts xs f (setQ false) b s = starts_more (starts_more s _) _
 join_starts xs f (countQ some) b s = s
 
 -- constraints are added to what is there
@@ -63,8 +63,8 @@ pub constraints_last : (c : Claim) → (emission c).nodes ≡ (body c).nodes ++ 
 unfolding emission constraint_part
 constraints_last c = starts_with (close_starts c.quantifiers start (body c))
 
--- "The constraint part is exactly 6 × (R − 1) nodes plus one per for-all set quantifier", and what single ports add.
-pub constraints_length : (c : Claim) → length (constraint_part c) ≡ 6 * (region_count c - 1) + all_sets c.quantifiers + port_nodes 1 c.quantifiers
+-- "The constraint part is exactly 6 × (R − 1) nodes plus one per for-all set quantifier."
+pub constraints_length : (c : Claim) → length (constraint_part c) ≡ 6 * (region_count c - 1) + all_sets c.quantifiers
 unfolding emission start
 constraints_length c =
     omega (
@@ -78,17 +78,12 @@ constraints_length c =
 
 -- ---- the whole
 
-pub twice_power : (n k : ℕ) → (n + n) * 2 ^ k ≡ n * 2 ^ suc k
-twice_power n k =
-    let e : n + n ≡ n * 2 = omega arith in
-    ap (λ x. x * 2 ^ k) e ∙ mul_assoc n 2 (2 ^ k) ∙ ap (λ x. n * x) (sym (pow-succ' 2 k))
-
-pub all_sets_few : (qs : List Quantifier) → all_sets qs ≤ sets qs
+all_sets_few : (qs : List Quantifier) → all_sets qs ≤ sets qs
 unfolding sets all_sets
 all_sets_few [] = omega arith
 all_sets_few (intQ some ∷ qs) = all_sets_few qs
-all_sets_few (set_q one true ∷ qs) = omega (arith, all_sets_few qs)
-all_sets_few (set_q one false ∷ qs) = omega (arith, all_sets_few qs)
+all_sets_few (setQ true ∷ qs) = omega (arith, all_sets_few qs)
+all_sets_few (setQ false ∷ qs) = omega (arith, all_sets_few qs)
 all_sets_few (countQ some ∷ qs) = all_sets_few qs
 
 nodes_short : (f : Frame) (ns : List Node) (e : Emitted) → 0 < f.regions
@@ -112,9 +107,9 @@ body_short c =
     rw zero-add at (subst (λ r. length (body c).nodes ≤ 0 + length c.nodes * (2 * r + 5)) (regions_are c)
     (nodes_short (inside_all start c.quantifiers) c.nodes nothing some))
 
--- "The whole has at most n × (2R + 5) + 6 × (R − 1) + S nodes for n input nodes", and what single ports add.
+-- "The whole has at most n × (2R + 5) + 6 × (R − 1) + S nodes for n input nodes."
 pub nodes_bound : (c : Claim)
-    → length (emission c).nodes ≤ length c.nodes * (2 * region_count c + 5) + 6 * (region_count c - 1) + sets c.quantifiers + port_nodes 1 c.quantifiers
+    → length (emission c).nodes ≤ length c.nodes * (2 * region_count c + 5) + 6 * (region_count c - 1) + sets c.quantifiers
 nodes_bound c =
     omega (
       arith,
@@ -124,18 +119,6 @@ nodes_bound c =
       all_sets_few c.quantifiers,
       body_short c,
     )
-
--- Each quantifier over single ports with e sets outside it adds 2 × 2 ^ e + 2, so all together at most 2 (R - 1) + 2 S.
-port_nodes_from : (qs : List Quantifier) (n : ℕ) → port_nodes n qs + 2 * n ≤ 2 * (n * 2 ^ sets qs) + 2 * sets qs
-unfolding port_nodes sets
-port_nodes_from [] n = omega (arith, mul-one n)
-port_nodes_from (intQ some ∷ qs) n = port_nodes_from qs n
-port_nodes_from (set_q false some ∷ qs) n = omega (arith, port_nodes_from qs (n + n), twice_power n (sets qs))
-port_nodes_from (set_q true some ∷ qs) n = omega (arith, port_nodes_from qs (n + n), twice_power n (sets qs))
-port_nodes_from (countQ some ∷ qs) n = port_nodes_from qs n
-
-pub port_nodes_most : (qs : List Quantifier) → port_nodes 1 qs ≤ 2 * (2 ^ sets qs - 1) + 2 * sets qs
-port_nodes_most qs = omega (arith, port_nodes_from qs 1, one-mul (2 ^ sets qs), one-le-pow (sets qs) 2 (omega arith))
 
 -- A set quantifier with e sets outside it becomes 2 ^ (e + 1) quantifiers; together those are 2 (R - 1).
 pub quantifier_count : (c : Claim)
@@ -153,7 +136,7 @@ nodes_limit c n s =
     let r : region_count c ≤ 2 ^ max_sets = pow_mono s in
     let w : 2 * region_count c + 5 ≤ 2 * 2 ^ max_sets + 5 = omega arith in
     let m : length c.nodes * (2 * region_count c + 5) ≤ max_nodes * (2 * 2 ^ max_sets + 5) = mul-le-mul n w in
-    omega (arith, nodes_bound c, port_nodes_most c.quantifiers)
+    omega (arith, nodes_bound c)
 
 -- a set makes at least as many regions as it takes quantifiers, so that the most sets make the most quantifiers
 power_limit : (s : ℕ) → s ≤ max_sets → 2 * 2 ^ s + max_sets ≤ 2 * 2 ^ max_sets + s

@@ -11,7 +11,7 @@ use Rattle.checker.specs.declared.Sort.TheVariants.{ASet, ATerm, AFormula, NoSor
 use Rattle.checker.specs.Claim.{Node, set_var, empty, whole, union, inter, compl, num_var, const, maxc, sum, diff, multiple, card, equal, less, divided, setEqual, subset, conj, disj, neg, unknown}
 use Rattle.checker.specs.Sorts.{sort, Is}
 use Rattle.checker.specs.Meaning.{Set}
-use Rattle.emission.specs.Emission.{Place, region_node, Frame, none, sum_run, card_run, last, amount_run, both_run, run_of, Emitted, emit_node, emit_nodes, size, counts}
+use Rattle.emission.specs.Emission.{Place, region_node, Frame, none, sum_run, card_run, last, empty_run, both_run, run_of, Emitted, emit_node, emit_nodes, size, counts}
 use Rattle.reducer.proofs.Lists.{new_at, old_at, at_each}
 
 -- the sorts that nodes are emitted for
@@ -64,17 +64,17 @@ unfolding card_run
 card_tail p k [] = tail_one (const (pos 0))
 card_tail p k (r ∷ rs) = sum_tail p rs k (region_node p r) (region_sort p r)
 
-pub amount_tail : (c : ℕ) (p : Place) (k : ℕ) (rs : List ℕ) → Tail AFormula (amount_run c p k rs)
-unfolding amount_run
-amount_tail c p k rs =
+pub empty_tail : (p : Place) (k : ℕ) (rs : List ℕ) → Tail AFormula (empty_run p k rs)
+unfolding empty_run
+empty_tail p k rs =
     let run = card_run p k rs in
-    record { front = run ++ const (pos c) ∷ []; final = equal (last k run) (k + length run); is = sym (append_assoc run (const (pos c) ∷ []) _); sorted = refl }
+    record { front = run ++ const (pos 0) ∷ []; final = equal (last k run) (k + length run); is = sym (append_assoc run (const (pos 0) ∷ []) _); sorted = refl }
 
 both_tail : (p : Place) (k : ℕ) (rs ss : List ℕ) → Tail AFormula (both_run p k rs ss)
 unfolding both_run
 both_tail p k rs ss =
-    let one = amount_run 0 p k rs in
-    let two = amount_run 0 p (k + length one) ss in
+    let one = empty_run p k rs in
+    let two = empty_run p (k + length one) ss in
     record { front = one ++ two; final = conj (last k one) (last (k + length one) two); is = refl; sorted = refl }
 
 run_tail : (f : Frame) (k : ℕ) (st : ℕ → ℕ) (pat : ℕ → Set) (n : Node) → Scalar (sort n) → Tail (sort n) (run_of f k st pat n)
@@ -96,7 +96,7 @@ run_tail f k st pat (equal a b) s = tail_one _
 run_tail f k st pat (less a b) s = tail_one _
 run_tail f k st pat (divided c b) s = tail_one _
 run_tail f k st pat (setEqual a b) s = both_tail f.place k _ _
-run_tail f k st pat (subset a b) s = amount_tail 0 f.place k _
+run_tail f k st pat (subset a b) s = empty_tail f.place k _
 run_tail f k st pat (conj a b) s = tail_one _
 run_tail f k st pat (disj a b) s = tail_one _
 run_tail f k st pat (neg a) s = tail_one _

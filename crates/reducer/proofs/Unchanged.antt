@@ -9,7 +9,7 @@ use lib.IntN.{ℤ}
 use lib.ListN.{length, get_or, length-append}
 use Rattle.checker.specs.declared.Sort.{Sort}
 use Rattle.checker.specs.declared.Sort.TheVariants.{ASet}
-use Rattle.checker.specs.Claim.{Node, Quantifier, Claim, set_var, empty, whole, union, inter, compl, num_var, const, maxc, sum, diff, multiple, card, equal, less, divided, setEqual, subset, conj, disj, neg, unknown, intQ, set_q, countQ}
+use Rattle.checker.specs.Claim.{Node, Quantifier, Claim, set_var, empty, whole, union, inter, compl, num_var, const, maxc, sum, diff, multiple, card, equal, less, divided, setEqual, subset, conj, disj, neg, unknown, intQ, setQ, countQ}
 use Rattle.checker.specs.Kinds.{is_set}
 use Rattle.checker.specs.Words.{claim_of, words_of}
 use Rattle.checker.specs.Sorts.{sort, Is, Fits, AllFit, WellSorted, sets}
@@ -53,21 +53,21 @@ numbered_all : (qs done : List Quantifier) (f : Frame) → sets qs ≡ 0 → Num
 unfolding inside_all sets
 numbered_all [] done f n h = rw append-nil h
 numbered_all (intQ some ∷ qs) done f n h = rw append_assoc at (numbered_all qs (done ++ intQ some ∷ []) (with_number f) n (numbered_more done f (intQ some) h))
-numbered_all (set_q one some ∷ qs) done f n h = absurd (omega arith)
+numbered_all (setQ some ∷ qs) done f n h = absurd (omega arith)
 numbered_all (countQ some ∷ qs) done f n h = rw append_assoc at (numbered_all qs (done ++ countQ some ∷ []) (with_number f) n (numbered_more done f (countQ some) h))
 
 same_quantifiers : (qs : List Quantifier) (f : Frame) → sets qs ≡ 0 → emit_quantifiers f qs ≡ qs
 unfolding emit_quantifiers becomes sets
 same_quantifiers [] f n = refl
 same_quantifiers (intQ some ∷ qs) f n = ap (λ l. (intQ some) ∷ l) (same_quantifiers qs (with_number f) n)
-same_quantifiers (set_q one some ∷ qs) f n = absurd (omega arith)
+same_quantifiers (setQ some ∷ qs) f n = absurd (omega arith)
 same_quantifiers (countQ some ∷ qs) f n = ap (λ l. (countQ some) ∷ l) (same_quantifiers qs (with_number f) n)
 
 no_constraints : (qs : List Quantifier) (f : Frame) (b : Body) → sets qs ≡ 0 → close f qs b ≡ b
 unfolding close sets
 no_constraints [] f b n = refl
 no_constraints (intQ some ∷ qs) f b n = no_constraints qs (with_number f) b n
-no_constraints (set_q one some ∷ qs) f b n = absurd (omega arith)
+no_constraints (setQ some ∷ qs) f b n = absurd (omega arith)
 no_constraints (countQ some ∷ qs) f b n = no_constraints qs (with_number f) b n
 
 -- ---- nodes keep their numbers

@@ -1,14 +1,13 @@
 -- What follows the runs of the nodes, as the code goes through it: the constraints, from the innermost quantifier to the outermost.
 -- Assumes nothing.
-use Rattle.std.specs.Prelude.{◌≡◌, Bool, true, false, List, [], ◌∷◌, ◌++◌, map, ℕ, ◌+◌, ◌*◌, ◌^◌, ◌≤◌, ℤ, length, get_or, take, drop}
+use Rattle.std.specs.Prelude.{◌≡◌, true, List, ◌++◌, map, ℕ, ◌+◌, ◌*◌, ◌^◌, ◌≤◌, ℤ, length, get_or, take, drop}
 use Rattle.checker.specs.declared.Shape.{Shape}
 use Rattle.checker.specs.declared.Checked.TheVariants.{Accepted}
-use Rattle.checker.specs.Claim.{Node, conj, intQ, Claim}
+use Rattle.checker.specs.Claim.{Node, intQ, Claim}
 use Rattle.checker.specs.Words.{claim_of, nodes_words, quantifier_word, trailer}
 use Rattle.checker.specs.Check.{max_sets, check_of}
-use Rattle.region.specs.Regions.{odd, dbl, covered}
 use Rattle.emission.specs.declared.Frame as code
-use Rattle.emission.specs.Emission.{counts, last, amount_run, start, inside_all, becomes, constraint, Body, close, body, emission}
+use Rattle.emission.specs.Emission.{counts, start, inside_all, becomes, constraint, Body, close, body, emission}
 use Rattle.emission.specs.Plan.{place_in, Planned}
 use Rattle.emission.specs.Write.{max_number}
 use Rattle.emission.specs.declared.Body as kept
@@ -24,20 +23,6 @@ pub record Prepared (ws : List ℤ) (shape : Shape) (plan : List ℕ) : Type 0 w
 -- the constraint of a set quantifier after k nodes, f being what the quantifiers outside it give
 unfoldable pub constraint_in : code.Frame → ℕ → List Node
 constraint_in f k = constraint (place_in f) (counts f.next) k (2 ^ f.level)
-
--- the same over single ports
-unfoldable pub port_in : code.Frame → ℕ → List Node
-port_in f k = run ++ ones ++ conj (last k run) (last (k + length run) ones) ∷ []
-  where
-    run : List Node
-    run = constraint_in f k
-
-    ones : List Node
-    ones = amount_run 1 (counts f.next) (k + length run) (covered 0 (dbl (2 ^ f.level)) odd)
-
-abbrev pub limit_in : Bool → code.Frame → ℕ → List Node
-limit_in false f k = constraint_in f k
-limit_in true f k = port_in f k
 
 -- The numbers of the regions, and of the parts that one more set splits them into, are words.
 pub record Within (f : code.Frame) : Type 0 where

@@ -2,9 +2,9 @@
 -- Assumes nothing.
 use Rattle.std.specs.Prelude.{◌≡◌, Bool, false, not, List, [], ◌∷◌, ℕ, ◌+◌, ◌^◌, length, drop}
 use Rattle.std.specs.Bool.{beq}
-use Rattle.checker.specs.Claim.{Node, Quantifier, Claim}
+use Rattle.checker.specs.Claim.{Node, Quantifier, intQ, setQ, countQ, Claim}
 use Rattle.checker.specs.Kinds.{is_set}
-use Rattle.checker.specs.Sorts.{sort, is_some, sets}
+use Rattle.checker.specs.Sorts.{sort, sets}
 use Rattle.checker.specs.Meaning.{bit}
 use Rattle.emission.specs.Emission.{body, emission}
 
@@ -18,11 +18,16 @@ constraint_part c = drop (length (body c).nodes) (emission c).nodes
 
 -- ---- alternations
 
+abbrev pub is_exists : Quantifier → Bool
+is_exists (intQ some) = some
+is_exists (setQ some) = some
+is_exists (countQ some) = some
+
 -- adjacent quantifiers of which one is an exists and the other a for-all
 unfoldable pub alternations : List Quantifier → ℕ
 alternations [] = 0
 alternations (p ∷ []) = 0
-alternations (p ∷ q ∷ qs) = bit (not (beq (is_some p) (is_some q))) + alternations (q ∷ qs)
+alternations (p ∷ q ∷ qs) = bit (not (beq (is_exists p) (is_exists q))) + alternations (q ∷ qs)
 
 -- ---- claims without sets
 

@@ -2,18 +2,15 @@
 ghost use Rattle.std.specs.Prelude.{◌≡◌, [], ◌∷◌, ◌++◌, ◌+◌, ◌*◌, ◌-◌, ◌≤◌, ◌<◌, length};
 ghost use Rattle.checker.specs.Claim.{conj, disj, neg};
 ghost use Rattle.checker.specs.Words.{claim_of};
-ghost use Rattle.region.specs.Regions.{odd, dbl, covered};
-ghost use Rattle.emission.specs.Emission.{counts, card_run, last, amount_run, five, body, emission};
+ghost use Rattle.emission.specs.Emission.{counts, last, five, body, emission};
 ghost use Rattle.emission.specs.Plan.{place_in};
 ghost use Rattle.emission.specs.Write.{max_number, Room, WroteNodes};
 ghost use Rattle.reducer.specs.Sizes.{constraint_part};
-ghost use Rattle.reducer.specs.Closing.{Prepared, constraint_in, port_in, limit_in, Within, closed_from, added, Tells};
+ghost use Rattle.reducer.specs.Closing.{Prepared, constraint_in, Within, closed_from, added, Tells};
 
 use checker::Shape;
-use checker::kinds::{binds_set, is_exists, is_single};
-use emission::kinds::{AND, EQUAL, NOT, NUMBER, OR, SUM};
+use emission::kinds::{ALL_SETS, AND, EQUAL, NOT, NUMBER, OR, SOME_SET, SUM};
 use emission::plan::frame_at;
-use emission::run::{put_amount, put_summand};
 use emission::write::{put_node, put_region};
 use emission::{Body, Frame};
 
@@ -57,63 +54,14 @@ fn put_constraint(out: &mut [i32], at: usize, frame: Frame) -> usize
     here
 }
 
-// How many ports the parts inside one more set have together: those of the odd regions.
-fn put_ports(out: &mut [i32], at: usize, inside: Frame, regions: usize) -> usize
-    requires { Room out.old at (length (card_run (place_in inside) at (covered 0 (dbl regions) odd))) × (1 ≤ regions) × (inside.first + 2 * regions ≤ max_number) }
-    ensures { WroteNodes out.old at (card_run (place_in inside) at (covered 0 (dbl regions) odd)) out.new result }
-{
-    let mut here = put_region(out, at, inside, 1);
-    let mut r = 1;
-    while r < regions {
-        here = put_summand(out, here, inside, 2 * r + 1);
-        r += 1;
-    }
-    here
-}
-
-// That they have one.
-fn put_one(out: &mut [i32], at: usize, inside: Frame, regions: usize) -> usize
-    requires { Room out.old at (length (amount_run 1 (place_in inside) at (covered 0 (dbl regions) odd))) × (1 ≤ regions) × (inside.first + 2 * regions ≤ max_number) }
-    ensures { WroteNodes out.old at (amount_run 1 (place_in inside) at (covered 0 (dbl regions) odd)) out.new result }
-{
-    let one = put_ports(out, at, inside, regions);
-    put_amount(out, one, 1)
-}
-
-// The constraint of a quantifier over single ports: that of a set, joined with that.
-fn put_port(out: &mut [i32], at: usize, frame: Frame) -> usize
-    requires { Room out.old at (length (port_in frame at)) × Within frame }
-    ensures { WroteNodes out.old at (port_in frame at) out.new result }
-{
-    let level = frame.level;
-    let inside = Frame {
-        next: frame.next,
-        level: level + 1,
-        first: frame.next,
-    };
-    let ones = put_constraint(out, at, frame);
-    let join = put_one(out, ones, inside, 1usize << level);
-    put_node(out, join, AND, ones - 1, join - 1)
-}
-
-fn put_limit(out: &mut [i32], at: usize, frame: Frame, one: bool) -> usize
-    requires { Room out.old at (length (limit_in one frame at)) × Within frame }
-    ensures { WroteNodes out.old at (limit_in one frame at) out.new result }
-{
-    if one {
-        return put_port(out, at, frame);
-    }
-    put_constraint(out, at, frame)
-}
-
 // exists: and(constraint, body), which is the new body
-fn put_some(out: &mut [i32], body: Body, frame: Frame, one: bool) -> Body
-    requires { Room out.old body.nodes (length (limit_in one frame body.nodes) + 1) × Within frame × (body.root ≤ max_number) }
-    ensures wrote_nodes { WroteNodes out.old body.nodes (limit_in one frame body.nodes ++ conj (last body.nodes (limit_in one frame body.nodes)) body.root ∷ []) out.new result.nodes }
+fn put_some(out: &mut [i32], body: Body, frame: Frame) -> Body
+    requires { Room out.old body.nodes (length (constraint_in frame body.nodes) + 1) × Within frame × (body.root ≤ max_number) }
+    ensures wrote_nodes { WroteNodes out.old body.nodes (constraint_in frame body.nodes ++ conj (last body.nodes (constraint_in frame body.nodes)) body.root ∷ []) out.new result.nodes }
     ensures root_value { result.root ≡ result.nodes - 1 }
 {
     let at = body.nodes;
-    let and = put_limit(out, at, frame, one);
+    let and = put_constraint(out, at, frame);
     let next = put_node(out, and, AND, and - 1, body.root);
     Body {
         nodes: next,
@@ -122,13 +70,13 @@ fn put_some(out: &mut [i32], body: Body, frame: Frame, one: bool) -> Body
 }
 
 // for all: not(constraint), and or(that, body), which is the new body
-fn put_all(out: &mut [i32], body: Body, frame: Frame, one: bool) -> Body
-    requires { Room out.old body.nodes (length (limit_in one frame body.nodes) + 2) × Within frame × (body.root ≤ max_number) }
-    ensures wrote_nodes { WroteNodes out.old body.nodes (limit_in one frame body.nodes ++ neg (last body.nodes (limit_in one frame body.nodes)) ∷ disj (body.nodes + length (limit_in one frame body.nodes)) body.root ∷ []) out.new result.nodes }
+fn put_all(out: &mut [i32], body: Body, frame: Frame) -> Body
+    requires { Room out.old body.nodes (length (constraint_in frame body.nodes) + 2) × Within frame × (body.root ≤ max_number) }
+    ensures wrote_nodes { WroteNodes out.old body.nodes (constraint_in frame body.nodes ++ neg (last body.nodes (constraint_in frame body.nodes)) ∷ disj (body.nodes + length (constraint_in frame body.nodes)) body.root ∷ []) out.new result.nodes }
     ensures root_value { result.root ≡ result.nodes - 1 }
 {
     let at = body.nodes;
-    let not = put_limit(out, at, frame, one);
+    let not = put_constraint(out, at, frame);
     let or = put_node(out, not, NOT, not - 1, 0);
     let next = put_node(out, or, OR, not, body.root);
     Body {
@@ -152,15 +100,11 @@ fn put_joined(
     ensures wrote_nodes { WroteNodes out.old body.nodes (added (closed_from (claim_of words.now) (j + 1)) (closed_from (claim_of words.now) j)) out.new result.nodes }
 {
     let frame = frame_at(plan, j);
-    let kind = checker::word(words, 3 * shape.nodes + j);
-    if binds_set(kind) {
-        let one = is_single(kind);
-        if is_exists(kind) {
-            return put_some(out, body, frame, one);
-        }
-        return put_all(out, body, frame, one);
+    match checker::word(words, 3 * shape.nodes + j) {
+        SOME_SET => put_some(out, body, frame),
+        ALL_SETS => put_all(out, body, frame),
+        _ => body,
     }
-    body
 }
 
 // The constraints of all set quantifiers, from the innermost to the outermost. The first body is the node that stands for the input's root, and the

@@ -7,7 +7,7 @@ ghost use Rattle.reducer.specs.Closing.{Prepared, becomes_at};
 
 use crate::words::put_repeated;
 use checker::Shape;
-use checker::kinds::{binds_set, is_exists};
+use emission::kinds::{ALL_SETS, SOME_SET};
 use emission::plan::frame_at;
 
 const SOME_COUNT: usize = 5;
@@ -29,13 +29,11 @@ fn put_quantifier(
     let frame = frame_at(plan, j);
     let level = frame.level;
     let kind = checker::word(words, 3 * shape.nodes + j);
-    if binds_set(kind) {
-        if is_exists(kind) {
-            return put_repeated(out, at, SOME_COUNT, 2 << level);
-        }
-        return put_repeated(out, at, ALL_COUNTS, 2 << level);
+    match kind {
+        SOME_SET => put_repeated(out, at, SOME_COUNT, 2 << level),
+        ALL_SETS => put_repeated(out, at, ALL_COUNTS, 2 << level),
+        _ => put_repeated(out, at, kind, 1),
     }
-    put_repeated(out, at, kind, 1)
 }
 
 pub fn put_quantifiers(

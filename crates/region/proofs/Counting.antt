@@ -9,9 +9,9 @@ use borrow.Author.Tests.{lt-ltb, le-ltb}
 use lib.Dec.{eqb, ltb}
 use lib.IntN.{pos}
 use lib.ListN.{get_or, get_or-map}
-use Rattle.checker.specs.Claim.{Node, set_var, empty, whole, union, inter, compl, num_var, const, maxc, sum, diff, multiple, card, equal, less, divided, setEqual, subset, conj, disj, neg, unknown, Quantifier, intQ, set_q, countQ, Claim}
-use Rattle.checker.specs.Meaning.{Set, Value, set, num, truth, as_set, as_num, as_truth, set_at, num_at, truth_at, World, value_of, values, matrix, bit, count, ports, Admits, Holds, Subset, TrueAt}
-use Rattle.region.specs.Regions.{deeper, half, odd, dbl, tally, tallies, Split, minus, over, regions}
+use Rattle.checker.specs.Claim.{Node, set_var, empty, whole, union, inter, compl, num_var, const, maxc, sum, diff, multiple, card, equal, less, divided, setEqual, subset, conj, disj, neg, unknown, Quantifier, intQ, setQ, countQ, Claim}
+use Rattle.checker.specs.Meaning.{Set, Value, set, num, truth, as_set, as_num, as_truth, set_at, num_at, truth_at, World, value_of, values, matrix, bit, ports, Holds, Subset, TrueAt}
+use Rattle.region.specs.Regions.{deeper, half, odd, dbl, tally, tallies, Split, minus, regions}
 use Rattle.region.specs.Counting.{pull, grow, HoldsR, TrueAtR}
 use Rattle.region.proofs.Regions.{dbl_is, double_half, double_odd, splitter, tallies_same, tallies-split, tallies_splitter, over_tallies, count_all, tallies_total, within_empty, same_empty}
 use Rattle.region.proofs.Quantified.{quantified, quantified_same}
@@ -122,14 +122,6 @@ deeper_lt n r y h p = go (y p)
     go true = omega (arith, dbl_is n, h p)
     go false = omega (arith, dbl_is n, h p)
 
--- the inside parts have the new set's ports together
-inside_count : (n N : ℕ) (r : ℕ → ℕ) (y : Set) → ((p : ℕ) → r p < n) → over odd (tallies (dbl n) N (deeper r y)) ≡ count N y
-inside_count n N r y h = over_tallies (dbl n) N (deeper r y) (deeper_lt n r y h) odd ∙ ap (count N) (fun_ext (deeper_odd r y))
-
-admitted : (one : Bool) {m n : ℕ} → m ≡ n → Admits one m → Admits one n
-admitted false e a = a
-admitted true e a = sym e ∙ a
-
 pub pull_grow : (r : ℕ → ℕ) (y : Set) (vs : List Value) → map (pull r) vs ++ set y ∷ [] ≡ map (pull (deeper r y)) (grow vs)
 unfolding grow
 pull_grow r y vs =
@@ -167,14 +159,11 @@ module _ (F : Type 0) (members : F → Set) (N : ℕ) (full : Full F members N) 
       (λ t. sym e ∙ t, λ t. e ∙ t)
   counting (intQ some ∷ qs) n r h vs =
       quantified_same some (λ k. carry qs (sym (map-append (pull r) vs (num k ∷ []))) (counting qs n r h (vs ++ num k ∷ [])))
-  counting (set_q one some ∷ qs) n r h vs =
+  counting (setQ some ∷ qs) n r h vs =
       let step : (f : F) → Holds F members N c qs (map (pull r) vs ++ set (members f) ∷ []) ↔ HoldsR c qs (grow vs) (tallies (dbl n) N (deeper r (members f))) =
       λ f. carry qs (pull_grow r (members f) vs) (counting qs (dbl n) (deeper r (members f)) (deeper_lt n r (members f) h) (grow vs)) in
-      quantified some
-      (λ f. (tallies (dbl n) N (deeper r (members f.0)), (tallies-split n N r (members f.0), admitted one (sym (inside_count n N r (members f.0) h)) f.1)))
-      (λ x. let w = split_by n r x.0 x.1.0 in (w.0, admitted one (ap (over odd) (sym w.1) ∙ inside_count n N r (members w.0) h) x.1.1))
-      (λ f. step f.0)
-      (λ x. let w = split_by n r x.0 x.1.0 in rw w.1 at (step w.0))
+      quantified some (λ f. (tallies (dbl n) N (deeper r (members f)), tallies-split n N r (members f))) (λ x. (split_by n r x.0 x.1).0) step
+      (λ x. let w = split_by n r x.0 x.1 in rw w.1 at (step w.0))
   counting (countQ some ∷ qs) n r h vs =
       quantified_same some (λ k. carry qs (sym (map-append (pull r) vs (num (pos k) ∷ []))) (counting qs n r h (vs ++ num (pos k) ∷ [])))
 

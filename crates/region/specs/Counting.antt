@@ -1,9 +1,9 @@
 -- The truth of a claim over region counts alone (003, section 4). `proofs/Counting.antt` shows that it is the truth over sets.
 -- Assumes nothing.
 use Rattle.std.specs.Prelude.{◌≡◌, true, List, [], ◌∷◌, ◌++◌, map, ℕ, ℤ, pos}
-use Rattle.checker.specs.Claim.{Quantifier, intQ, set_q, countQ, Claim}
-use Rattle.checker.specs.Meaning.{Value, set, num, truth, matrix, Admits, Quantified}
-use Rattle.region.specs.Regions.{half, odd, Split, over, regions}
+use Rattle.checker.specs.Claim.{Quantifier, intQ, setQ, countQ, Claim}
+use Rattle.checker.specs.Meaning.{Value, set, num, truth, matrix, Quantified}
+use Rattle.region.specs.Regions.{half, odd, Split, regions}
 
 -- A value over other things, r giving for each of those the thing that it was.
 abbrev pub pull : (ℕ → ℕ) → Value → Value
@@ -19,7 +19,7 @@ grow vs = map (pull half) vs ++ set odd ∷ []
 abbrev pub HoldsR : Claim → List Quantifier → List Value → List ℕ → Type 0
 HoldsR c [] vs cs = matrix (regions cs) c vs ≡ true
 HoldsR c (intQ some ∷ qs) vs cs = Quantified some ℤ (λ k. HoldsR c qs (vs ++ num k ∷ []) cs)
-HoldsR c (set_q one some ∷ qs) vs cs = Quantified some ((ls : List ℕ) × (Split cs ls × Admits one (over odd ls))) (λ x. HoldsR c qs (grow vs) x.0)
+HoldsR c (setQ some ∷ qs) vs cs = Quantified some ((ls : List ℕ) × Split cs ls) (λ x. HoldsR c qs (grow vs) x.0)
 HoldsR c (countQ some ∷ qs) vs cs = Quantified some ℕ (λ k. HoldsR c qs (vs ++ num (pos k) ∷ []) cs)
 
 -- At size N: from one region of N ports.

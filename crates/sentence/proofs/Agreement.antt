@@ -11,7 +11,7 @@ use lib.Dec.{leb-suc-zero, eqb}
 use lib.IntN.{ℤ, pos, negsuc}
 use lib.ListN.{length, get_or}
 use lib.Signed.{lt_z, non_neg}
-use Rattle.checker.specs.Claim.{Node, set_var, empty, whole, union, inter, compl, num_var, const, maxc, sum, diff, multiple, card, equal, less, divided, setEqual, subset, conj, disj, neg, unknown, Quantifier, intQ, set_q, countQ, Claim}
+use Rattle.checker.specs.Claim.{Node, set_var, empty, whole, union, inter, compl, num_var, const, maxc, sum, diff, multiple, card, equal, less, divided, setEqual, subset, conj, disj, neg, unknown, Quantifier, intQ, setQ, countQ, Claim}
 use Rattle.checker.specs.Sorts.{sets}
 use Rattle.checker.specs.Meaning.{Value, num, truth, as_num, as_truth, num_at, truth_at, divides, ports, value_of, values, matrix, Quantified, Holds, Subset}
 use Rattle.region.proofs.Quantified.{quantified_same}
@@ -161,7 +161,7 @@ module _ (N : ℕ) (c : Claim) (p : AllPlain c.nodes) where
       quantified_same some (λ k.
       rw (length-snoc us (num k))
       at (closed_means qs (bind env (variable (length us)) (num k)) (us ++ num k ∷ []) h (bind_variable N env us [] k a)))
-  closed_means (set_q one some ∷ qs) env us h a = absurd (omega arith)
+  closed_means (setQ some ∷ qs) env us h a = absurd (omega arith)
   closed_means (countQ some ∷ qs) env us h a =
       counted_iff some _ _ _ (variable_at_least env (length us)) (λ k.
       rw (length-snoc us (num (pos k)))

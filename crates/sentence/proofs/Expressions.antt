@@ -16,7 +16,7 @@ use Rattle.decimal.specs.Printing.{decimal_of, decimal}
 use Rattle.sentence.specs.Bytes.{bytes}
 use Rattle.sentence.specs.Sentences.{expr_of, plain}
 use Rattle.sentence.specs.Text.{name_text, expr_text}
-use Rattle.sentence.specs.Scan.{found, one_from, twoFrom, minusFrom, timesFrom, equalFrom, andFrom, bracketFrom, exprFrom}
+use Rattle.sentence.specs.Scan.{found, oneFrom, twoFrom, minusFrom, timesFrom, equalFrom, andFrom, bracketFrom, exprFrom}
 use Rattle.sentence.proofs.Numbers.{Stops, starts_other, number_read}
 
 pub zero_text : decimal 0 ≡ bytes "0"
@@ -33,8 +33,8 @@ starts_so x h n s bs = rw (append_assoc (decimal n) s bs) (starts_other x h n (s
 
 module _ (most : ℕ) where
   one_read : (f : ℕ → Node) (after : String) (n : ℕ) (bs : List ℕ) → n ≤ most → Stops (bytes after ++ bs)
-      → one_from most f after (decimal n ++ (bytes after ++ bs)) ≡ found (f n) bs
-  unfolding one_from
+      → oneFrom most f after (decimal n ++ (bytes after ++ bs)) ≡ found (f n) bs
+  unfolding oneFrom
   one_read f after n bs l h = rw (number_read most n (bytes after ++ bs) l h, drop-append_seam (bytes after) bs)
 
   two_read : (f : ℕ → ℕ → Node) (between after : String) (a b : ℕ) (bs : List ℕ) → a ≤ most → b ≤ most

@@ -13,7 +13,7 @@ use lib.IntN.{ℤ, pos, negsuc}
 use lib.ListN.{length, get_or}
 use Rattle.checker.specs.declared.Sort.{Sort as ClaimSort}
 use Rattle.checker.specs.declared.Sort.TheVariants.{ASet, ATerm, AFormula, NoSort}
-use Rattle.checker.specs.Claim.{Node, set_var, empty, whole, union, inter, compl, num_var, const, maxc, sum, diff, multiple, card, equal, less, divided, setEqual, subset, conj, disj, neg, unknown, Quantifier, intQ, set_q, countQ, Claim}
+use Rattle.checker.specs.Claim.{Node, set_var, empty, whole, union, inter, compl, num_var, const, maxc, sum, diff, multiple, card, equal, less, divided, setEqual, subset, conj, disj, neg, unknown, Quantifier, intQ, setQ, countQ, Claim}
 use Rattle.checker.specs.Sorts.{sort, sets, Is, Fits, AllFit, WellSorted}
 use Rattle.sentence.specs.Smt.{the_size, variable, result, plus, subtract, times, equals, below, at_least, both, either, Expr, Sentence, says}
 use Rattle.sentence.specs.Formed.{Sort, int, bool, Context, unbound, extend, Sorted, of_name, of_numeral, of_false, of_minus, of_not, of_mod, of_two, Formed, WellFormed}
@@ -121,7 +121,7 @@ unfolding closed sets
 closed_formed i [] g s p b f = f g (rw (add-zero i) b)
 closed_formed i (intQ some ∷ qs) g s p b f =
     closed_formed (suc i) qs (extend g (variable i) int) s p (bound_variable i g b) (λ k c. f k (rw (next i qs) c))
-closed_formed i (set_q one some ∷ qs) g s p b f = absurd (omega arith)
+closed_formed i (setQ some ∷ qs) g s p b f = absurd (omega arith)
 closed_formed i (countQ some ∷ qs) g s p b f =
     let d = bound_variable i g b in (
       of_two at_least (of_name (d.variables i (omega arith))) (of_numeral 0),

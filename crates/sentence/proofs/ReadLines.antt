@@ -8,7 +8,7 @@ use native.Mathlib.Omega.{arith}
 use lib.Dec.{eqb}
 use lib.IntN.{nat_abs}
 use lib.ListN.{length, get_or}
-use Rattle.checker.specs.Claim.{Node, Quantifier, intQ, set_q, countQ}
+use Rattle.checker.specs.Claim.{Node, Quantifier, intQ, setQ, countQ}
 use Rattle.checker.specs.Words.{fields_of}
 use Rattle.checker.specs.Sorts.{is_set_q, sets}
 use Rattle.decimal.specs.Reading.{digit}
@@ -69,7 +69,7 @@ unfolding quantifier_lines quantifier_line quantify_line sets
 second x d l e f i [] h ns r bs = nodes_second x d l ns r bs
 second x d l e f i (intQ true ∷ qs) h ns r bs = e
 second x d l e f i (intQ false ∷ qs) h ns r bs = f
-second x d l e f i (set_q one some ∷ qs) h ns r bs = absurd (omega arith)
+second x d l e f i (setQ some ∷ qs) h ns r bs = absurd (omega arith)
 second x d l e f i (countQ true ∷ qs) h ns r bs = e
 second x d l e f i (countQ false ∷ qs) h ns r bs = f
 
@@ -93,14 +93,14 @@ count_guards false i bs = refl
 no_set : (q : Quantifier) (qs : List Quantifier) → sets (q ∷ qs) ≡ 0 → (is_set_q q ≡ false) × (sets qs ≡ 0)
 unfolding sets
 no_set (intQ some) qs h = (refl, h)
-no_set (set_q one some) qs h = absurd (omega arith)
+no_set (setQ some) qs h = absurd (omega arith)
 no_set (countQ some) qs h = (refl, h)
 
 quantifier_opens : (i : ℕ) (q : Quantifier) (bs : List ℕ) → is_set_q q ≡ false → (is 1 "e" (quantifier_line i q ++ bs) || is 1 "f" (quantifier_line i q ++ bs)) ≡ true
 unfolding quantifier_line quantify_line
 quantifier_opens i (intQ true) bs h = refl
 quantifier_opens i (intQ false) bs h = refl
-quantifier_opens i (set_q one some) bs h = absurd (true≢false h)
+quantifier_opens i (setQ some) bs h = absurd (true≢false h)
 quantifier_opens i (countQ true) bs h = refl
 quantifier_opens i (countQ false) bs h = refl
 
@@ -118,7 +118,7 @@ module _ (most : ℕ) where
   quantifier_read : (i : ℕ) (q : Quantifier) (bs : List ℕ) → is_set_q q ≡ false → Unguarded bs → quantifierFrom most (quantifier_line i q ++ bs) ≡ found q bs
   unfolding quantifierFrom quantifier_line
   quantifier_read i (intQ some) bs h u = rw (quantify_some some i bs, quantify_rest some i bs, u)
-  quantifier_read i (set_q one some) bs h u = absurd (true≢false h)
+  quantifier_read i (setQ some) bs h u = absurd (true≢false h)
   quantifier_read i (countQ some) bs h u =
       let next = count_line some i ++ bs in
       rw (append_assoc (quantify_line some (variable i)) (count_line some i) bs, quantify_some some i next, quantify_rest some i next, count_guards some i bs, guard_rest some i bs)

@@ -2,7 +2,7 @@
 -- closing brackets, and what stands last. Assumes nothing.
 use Rattle.std.specs.Prelude.{Bool, List, [], ◌∷◌, ◌++◌, ℕ, suc, ◌+◌, length, replicate}
 use Prim.Native.Char.{code}
-use Rattle.checker.specs.Claim.{Node, Quantifier, intQ, set_q, countQ, Claim}
+use Rattle.checker.specs.Claim.{Node, Quantifier, intQ, setQ, countQ, Claim}
 use Rattle.decimal.specs.Printing.{decimal}
 use Rattle.sentence.specs.Bytes.{bytes}
 use Rattle.sentence.specs.Smt.{variable, result, named}
@@ -31,7 +31,7 @@ count_line some i = guard_line some (not_negative (named (variable i)))
 -- the lines of quantifier i
 unfoldable pub quantifier_line : ℕ → Quantifier → List ℕ
 quantifier_line i (intQ some) = quantify_line some (variable i)
-quantifier_line i (set_q one some) = []
+quantifier_line i (setQ some) = []
 quantifier_line i (countQ some) = quantify_line some (variable i) ++ count_line some i
 
 -- the lines of the quantifiers from number i on
@@ -43,7 +43,7 @@ quantifier_lines i (q ∷ qs) = quantifier_line i q ++ quantifier_lines (suc i) 
 unfoldable pub brackets : List Quantifier → ℕ
 brackets [] = 0
 brackets (intQ some ∷ qs) = brackets qs + 1
-brackets (set_q one some ∷ qs) = brackets qs
+brackets (setQ some ∷ qs) = brackets qs
 brackets (countQ some ∷ qs) = brackets qs + 2
 
 -- k closing brackets

@@ -51,8 +51,8 @@ module _ (most : ℕ) where
   -- ---- expressions
 
   -- the node made of a number, and the bytes after it
-  unfoldable pub one_from : (ℕ → Node) → String → List ℕ → Found Node
-  one_from f after bs =
+  unfoldable pub oneFrom : (ℕ → Node) → String → List ℕ → Found Node
+  oneFrom f after bs =
       let x = number_from 0 bs in
       found (f x.value) (past after x.rest)
 
@@ -64,7 +64,7 @@ module _ (most : ℕ) where
       found (f x.value y.value) (past after y.rest)
 
   unfoldable pub minusFrom : List ℕ → Found Node
-  minusFrom bs = cond (is 3 "n" bs) (twoFrom diff " n" ")" (past "(- n" bs)) (one_from (λ c. const (neg_ℤ (pos c))) ")" (past "(- " bs))
+  minusFrom bs = cond (is 3 "n" bs) (twoFrom diff " n" ")" (past "(- n" bs)) (oneFrom (λ c. const (neg_ℤ (pos c))) ")" (past "(- " bs))
 
   unfoldable pub timesFrom : List ℕ → Found Node
   timesFrom bs =
@@ -78,7 +78,7 @@ module _ (most : ℕ) where
       (twoFrom (λ b c. divided (pos c) b) " " ") 0)" (past "(= (mod n" bs)))
 
   unfoldable pub andFrom : List ℕ → Found Node
-  andFrom bs = cond (is 5 "n" bs) (twoFrom conj " n" ")" (past "(and n" bs)) (one_from (divided (pos 0)) " 0))" (past "(and false (= n" bs))
+  andFrom bs = cond (is 5 "n" bs) (twoFrom conj " n" ")" (past "(and n" bs)) (oneFrom (divided (pos 0)) " 0))" (past "(and false (= n" bs))
 
   unfoldable pub bracketFrom : List ℕ → Found Node
   bracketFrom bs =
@@ -88,13 +88,13 @@ module _ (most : ℕ) where
       (cond (is 1 "=" bs) (equalFrom bs)
       (cond (is 1 "<" bs) (twoFrom less " n" ")" (past "(< n" bs))
       (cond (is 1 "a" bs) (andFrom bs)
-      (cond (is 1 "o" bs) (twoFrom disj " n" ")" (past "(or n" bs)) (one_from neg ")" (past "(not n" bs))))))))
+      (cond (is 1 "o" bs) (twoFrom disj " n" ")" (past "(or n" bs)) (oneFrom neg ")" (past "(not n" bs))))))))
 
   unfoldable pub exprFrom : List ℕ → Found Node
   exprFrom bs =
       cond (is 0 "(" bs) (bracketFrom bs)
-      (cond (is 0 "q" bs) (one_from num_var "" (past "q" bs))
-      (cond (is 0 "M" bs) (found maxc (past "MAXC" bs)) (one_from (λ c. const (pos c)) "" bs)))
+      (cond (is 0 "q" bs) (oneFrom num_var "" (past "q" bs))
+      (cond (is 0 "M" bs) (found maxc (past "MAXC" bs)) (oneFrom (λ c. const (pos c)) "" bs)))
 
   -- ---- lines
 

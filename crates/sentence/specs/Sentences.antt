@@ -2,7 +2,7 @@
 -- Assumes nothing.
 use Rattle.std.specs.Prelude.{◌≡◌, Bool, List, [], ◌∷◌, ℕ, zero, suc, ℤ, pos, negsuc}
 use Rattle.checker.specs.declared.Dialect.TheVariants.{Emitted}
-use Rattle.checker.specs.Claim.{Node, set_var, empty, whole, union, inter, compl, num_var, const, maxc, sum, diff, multiple, card, equal, less, divided, setEqual, subset, conj, disj, neg, unknown, Quantifier, intQ, set_q, countQ, Claim}
+use Rattle.checker.specs.Claim.{Node, set_var, empty, whole, union, inter, compl, num_var, const, maxc, sum, diff, multiple, card, equal, less, divided, setEqual, subset, conj, disj, neg, unknown, Quantifier, intQ, setQ, countQ, Claim}
 use Rattle.checker.specs.Words.{fields_of}
 use Rattle.checker.specs.Sorts.{sets}
 use Rattle.checker.specs.Dialect.{takes_kind}
@@ -80,7 +80,7 @@ lets i (n ∷ ns) s = let_in (result i) (expr_of n) (lets (suc i) ns s)
 unfoldable pub closed : ℕ → List Quantifier → Sentence → Sentence
 closed i [] s = s
 closed i (intQ some ∷ qs) s = quantify some (variable i) (closed (suc i) qs s)
-closed i (set_q one some ∷ qs) s = closed (suc i) qs s
+closed i (setQ some ∷ qs) s = closed (suc i) qs s
 closed i (countQ some ∷ qs) s = quantify some (variable i) (guarded some (not_negative (named (variable i))) (closed (suc i) qs s))
 
 unfoldable pub sentence_of : Claim → Sentence

@@ -10,7 +10,7 @@ use lib.IntN.{pos}
 use lib.ListN.{length, length-append}
 use Rattle.checker.specs.declared.Dialect.TheVariants.{Emitted}
 use Rattle.checker.specs.Dialect.{most_nodes, most_quantifiers}
-use Rattle.checker.specs.Claim.{Node, Quantifier, Claim, set_var, empty, whole, union, inter, compl, num_var, const, maxc, sum, diff, multiple, card, equal, less, divided, setEqual, subset, conj, disj, neg, unknown, intQ, set_q, countQ}
+use Rattle.checker.specs.Claim.{Node, Quantifier, Claim, set_var, empty, whole, union, inter, compl, num_var, const, maxc, sum, diff, multiple, card, equal, less, divided, setEqual, subset, conj, disj, neg, unknown, intQ, setQ, countQ}
 use Rattle.checker.specs.Kinds.{number, node_of}
 use Rattle.checker.specs.Words.{words_of}
 use Rattle.checker.specs.Sorts.{Fits, AllFit, WellSorted}
@@ -37,7 +37,7 @@ brackets_few : (qs : List Quantifier) → brackets qs ≤ 2 * length qs
 unfolding brackets
 brackets_few [] = omega arith
 brackets_few (intQ some ∷ qs) = omega (arith, brackets_few qs)
-brackets_few (set_q one some ∷ qs) = omega (arith, brackets_few qs)
+brackets_few (setQ some ∷ qs) = omega (arith, brackets_few qs)
 brackets_few (countQ some ∷ qs) = omega (arith, brackets_few qs)
 
 -- ---- nodes

@@ -1,6 +1,6 @@
--- The free words of nodes: constants, factors and divisors. Those of an emission are those of its claim, 0 and 1, so they fit 32 bits if the claim's do.
+-- The free words of nodes: constants, factors and divisors. Those of an emission are those of its claim and 0, so they fit 32 bits if the claim's do.
 -- Assumes nothing.
-use mathlib.Core.Bool.{Bool, true, false}
+use mathlib.Core.Bool.{true, false}
 use mathlib.Core.List.{List, [], ◌∷◌, ◌++◌}
 use Prim.Native.Nat.{ℕ, zero, suc, ◌+◌, ◌*◌, ◌-◌}
 use native.Mathlib.Omega.{arith}
@@ -8,10 +8,9 @@ use lib.IntN.{ℤ, pos}
 use lib.ListN.{length}
 use mir.Syntax.{w32}
 use mir.Val.{SFits}
-use Rattle.checker.specs.Claim.{Node, Quantifier, Claim, set_var, empty, whole, union, inter, compl, num_var, const, maxc, sum, diff, multiple, card, equal, less, divided, setEqual, subset, conj, disj, neg, unknown, intQ, set_q, countQ}
+use Rattle.checker.specs.Claim.{Node, Quantifier, Claim, set_var, empty, whole, union, inter, compl, num_var, const, maxc, sum, diff, multiple, card, equal, less, divided, setEqual, subset, conj, disj, neg, unknown, intQ, setQ, countQ}
 use Rattle.checker.specs.Meaning.{Set}
-use Rattle.region.specs.Regions.{odd, dbl, covered}
-use Rattle.emission.specs.Emission.{Place, region_node, Frame, start, inside_all, sum_run, card_run, last, amount_run, both_run, run_of, Emitted, emit_node, emit_nodes, five, further_fives, constraint, Body, split_run, port_run, constraint_run, join_some, join_all, join, body, emission, size, counts}
+use Rattle.emission.specs.Emission.{Place, region_node, Frame, start, inside_all, sum_run, card_run, last, empty_run, both_run, run_of, Emitted, emit_node, emit_nodes, five, further_fives, constraint, Body, split_run, join_some, join_all, join, body, emission, size, counts}
 use Rattle.reducer.proofs.Stands.{nothing, run_at}
 use Rattle.reducer.proofs.Bodies.{close_keeps}
 
@@ -50,9 +49,6 @@ FreeSmall (n ∷ ns) = Small (free n) × FreeSmall ns
 pub zero_small : Small (pos 0)
 zero_small = record { sfits = omega arith }
 
-one_small : Small (pos 1)
-one_small = record { sfits = omega arith }
-
 append : (xs ys : List Node) → FreeSmall xs → FreeSmall ys → FreeSmall (xs ++ ys)
 append [] ys h k = k
 append (x ∷ xs) ys (p, h) k = (p, append xs ys h k)
@@ -73,16 +69,16 @@ unfolding card_run
 of_card p [] k = (zero_small, tt)
 of_card p (r ∷ rs) k = (of_region p r, of_sum p rs k)
 
-of_amount : (c : ℕ) → Small (pos c) → (p : Place) (rs : List ℕ) (k : ℕ) → FreeSmall (amount_run c p k rs)
-unfolding amount_run
-of_amount c s p rs k = append (card_run p k rs) _ (of_card p rs k) (s, (zero_small, tt))
+of_empty : (p : Place) (rs : List ℕ) (k : ℕ) → FreeSmall (empty_run p k rs)
+unfolding empty_run
+of_empty p rs k = append (card_run p k rs) _ (of_card p rs k) (zero_small, (zero_small, tt))
 
 of_both : (p : Place) (rs ss : List ℕ) (k : ℕ) → FreeSmall (both_run p k rs ss)
 unfolding both_run
 of_both p rs ss k =
-    let one = amount_run 0 p k rs in
-    let two = amount_run 0 p (k + length one) ss in
-    append (one ++ two) (conj (last k one) (last (k + length one) two) ∷ []) (append one two (of_amount 0 zero_small p rs k) (of_amount 0 zero_small p ss (k + length one))) (zero_small, tt)
+    let one = empty_run p k rs in
+    let two = empty_run p (k + length one) ss in
+    append (one ++ two) (conj (last k one) (last (k + length one) two) ∷ []) (append one two (of_empty p rs k) (of_empty p ss (k + length one))) (zero_small, tt)
 
 of_run : (f : Frame) (k : ℕ) (st : ℕ → ℕ) (pat : ℕ → Set) (n : Node) → Small (free n) → FreeSmall (run_of f k st pat n)
 unfolding run_of
@@ -103,7 +99,7 @@ of_run f k st pat (equal a b) h = (h, tt)
 of_run f k st pat (less a b) h = (h, tt)
 of_run f k st pat (divided w b) h = (h, tt)
 of_run f k st pat (setEqual a b) h = of_both f.place _ _ k
-of_run f k st pat (subset a b) h = of_amount 0 zero_small f.place _ k
+of_run f k st pat (subset a b) h = of_empty f.place _ k
 of_run f k st pat (conj a b) h = (h, tt)
 of_run f k st pat (disj a b) h = (h, tt)
 of_run f k st pat (neg a) h = (h, tt)
@@ -132,26 +128,15 @@ of_split f k =
     append (five f.place (counts f.next) k 0) _ (of_five f.place (counts f.next) k 0)
     (of_further f.place (counts f.next) (f.regions - 1) (k + 4) 1)
 
-of_port : (f : Frame) (k : ℕ) → FreeSmall (port_run f k)
-unfolding port_run
-of_port f k =
-    let one = split_run f k in
-    let two = amount_run 1 (counts f.next) (k + length one) (covered 0 (dbl f.regions) odd) in
-    append (one ++ two) (conj (last k one) (last (k + length one) two) ∷ []) (append one two (of_split f k) (of_amount 1 one_small _ _ (k + length one))) (zero_small, tt)
-
-of_limit : (one : Bool) (f : Frame) (k : ℕ) → FreeSmall (constraint_run one f k)
-of_limit false f k = of_split f k
-of_limit true f k = of_port f k
-
 of_join : (f : Frame) (q : Quantifier) (b : Body) → FreeSmall b.nodes → FreeSmall (join f q b).nodes
 unfolding join_some join_all
 of_join f (intQ some) b h = h
-of_join f (set_q one true) b h =
-    let nodes = b.nodes ++ constraint_run one f (length b.nodes) in
-    append nodes (conj (last 0 nodes) b.root ∷ []) (append b.nodes _ h (of_limit one f _)) (zero_small, tt)
-of_join f (set_q one false) b h =
-    let nodes = b.nodes ++ constraint_run one f (length b.nodes) in
-    append nodes (neg (last 0 nodes) ∷ disj (length nodes) b.root ∷ []) (append b.nodes _ h (of_limit one f _)) (zero_small, (zero_small, tt))
+of_join f (setQ true) b h =
+    let nodes = b.nodes ++ split_run f (length b.nodes) in
+    append nodes (conj (last 0 nodes) b.root ∷ []) (append b.nodes _ h (of_split f _)) (zero_small, tt)
+of_join f (setQ false) b h =
+    let nodes = b.nodes ++ split_run f (length b.nodes) in
+    append nodes (neg (last 0 nodes) ∷ disj (length nodes) b.root ∷ []) (append b.nodes _ h (of_split f _)) (zero_small, (zero_small, tt))
 of_join f (countQ some) b h = h
 
 pub emission_free : (c : Claim) → FreeSmall c.nodes → FreeSmall (emission c).nodes

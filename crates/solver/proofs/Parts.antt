@@ -1,12 +1,11 @@
 -- The lines of a node and of a quantifier, as the writer puts them together. Assumes nothing.
-use mathlib.Core.Path.{◌≡◌, refl, sym}
-use mathlib.Core.Bool.{true, false, true≢false}
+use mathlib.Core.Path.{◌≡◌, refl}
+use mathlib.Core.Bool.{true, false}
 use mathlib.Core.List.{List, [], ◌++◌, append_assoc}
 use Prim.Native.Nat.{ℕ, zero, suc}
 use lib.IntN.{pos}
-use Rattle.checker.specs.Claim.{Node, Quantifier, intQ, set_q, countQ}
+use Rattle.checker.specs.Claim.{Node, intQ}
 use Rattle.checker.specs.Kinds.{number, quantifier_of}
-use Rattle.checker.specs.Sorts.{is_set_q}
 use Rattle.decimal.specs.Printing.{decimal}
 use Rattle.sentence.specs.Bytes.{bytes}
 use Rattle.sentence.specs.Sentences.{expr_of}
@@ -30,28 +29,20 @@ pub count_all : (i : ℕ) → count_line false i ≡ one_text (bytes "(=> (>= q"
 unfolding guard_line expr_text name_text
 count_all i = rw (zero_text, append_assoc (decimal i) (bytes " 0)") (bytes "\n"))
 
--- k is none of 2, 5 and 6
+-- k is none of 2 to 6
 abbrev pub OtherQuantifier : ℕ → Type 0
-OtherQuantifier k = ((Unit {0} × (k ≡ 2 → ⊥)) × (k ≡ 5 → ⊥)) × (k ≡ 6 → ⊥)
+OtherQuantifier k = ((((Unit {0} × (k ≡ 2 → ⊥)) × (k ≡ 3 → ⊥)) × (k ≡ 4 → ⊥)) × (k ≡ 5 → ⊥)) × (k ≡ 6 → ⊥)
 
-other_exists : (k : ℕ) → is_set_q (quantifier_of (pos k)) ≡ false → OtherQuantifier k → quantifier_of (pos k) ≡ intQ true
+other_exists : (k : ℕ) → OtherQuantifier k → quantifier_of (pos k) ≡ intQ true
 unfolding quantifier_of number
-other_exists zero s h = refl
-other_exists (suc zero) s h = refl
-other_exists (suc (suc zero)) s h = absurd (h.0.0.1 refl)
-other_exists (suc (suc (suc zero))) s h = absurd (true≢false s)
-other_exists (suc (suc (suc (suc zero)))) s h = absurd (true≢false s)
-other_exists (suc (suc (suc (suc (suc zero))))) s h = absurd (h.0.1 refl)
-other_exists (suc (suc (suc (suc (suc (suc zero)))))) s h = absurd (h.1 refl)
-other_exists (suc (suc (suc (suc (suc (suc (suc zero))))))) s h = absurd (true≢false s)
-other_exists (suc (suc (suc (suc (suc (suc (suc (suc zero)))))))) s h = absurd (true≢false s)
-other_exists (suc (suc (suc (suc (suc (suc (suc (suc (suc k))))))))) s h = refl
-
-no_set_line : (i : ℕ) (q : Quantifier) → is_set_q q ≡ true → quantifier_line i q ≡ []
-unfolding quantifier_line
-no_set_line i (intQ some) e = absurd (true≢false (sym e))
-no_set_line i (set_q one some) e = refl
-no_set_line i (countQ some) e = absurd (true≢false (sym e))
+other_exists zero h = refl
+other_exists (suc zero) h = refl
+other_exists (suc (suc zero)) h = absurd (h.0.0.0.0.1 refl)
+other_exists (suc (suc (suc zero))) h = absurd (h.0.0.0.1 refl)
+other_exists (suc (suc (suc (suc zero)))) h = absurd (h.0.0.1 refl)
+other_exists (suc (suc (suc (suc (suc zero))))) h = absurd (h.0.1 refl)
+other_exists (suc (suc (suc (suc (suc (suc zero)))))) h = absurd (h.1 refl)
+other_exists (suc (suc (suc (suc (suc (suc (suc k))))))) h = refl
 
 module _ (i k : ℕ) where
   abbrev line : List ℕ
@@ -61,8 +52,13 @@ module _ (i k : ℕ) where
   unfolding quantifier_of number quantifier_line quantify_line name_text
   integers_line e = rw e
 
-  pub set_line : is_set_q (quantifier_of (pos k)) ≡ true → line ≡ []
-  set_line e = no_set_line i (quantifier_of (pos k)) e
+  pub some_set_line : k ≡ 3 → line ≡ []
+  unfolding quantifier_of number quantifier_line
+  some_set_line e = rw e
+
+  pub all_sets_line : k ≡ 4 → line ≡ []
+  unfolding quantifier_of number quantifier_line
+  all_sets_line e = rw e
 
   pub some_count_line : k ≡ 5 → line ≡ count_text (bytes "(exists ((q") (bytes "(and (>= q") i
   unfolding quantifier_of number quantifier_line quantify_line name_text
@@ -72,6 +68,6 @@ module _ (i k : ℕ) where
   unfolding quantifier_of number quantifier_line quantify_line name_text
   all_counts_line e = rw (e, count_all i)
 
-  pub other_line : is_set_q (quantifier_of (pos k)) ≡ false → OtherQuantifier k → line ≡ one_text (bytes "(exists ((q") i (bytes " Int))\n")
+  pub other_line : OtherQuantifier k → line ≡ one_text (bytes "(exists ((q") i (bytes " Int))\n")
   unfolding quantifier_line quantify_line name_text
-  other_line s h = rw (other_exists k s h)
+  other_line h = rw (other_exists k h)

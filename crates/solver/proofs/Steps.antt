@@ -1,6 +1,6 @@
 -- The lines of a table's nodes and quantifiers one after the other, as loops go through them. Assumes nothing.
-use mathlib.Core.Path.{◌≡◌, refl, sym, ◌∙◌}
-use mathlib.Core.Bool.{true, false, true≢false}
+use mathlib.Core.Path.{◌≡◌, refl, ◌∙◌}
+use mathlib.Core.Bool.{true}
 use mathlib.Core.List.{List, [], ◌∷◌, ◌++◌}
 use Prim.Native.Nat.{ℕ, zero, suc, ◌+◌, ◌*◌, ◌-◌, ◌<◌, ◌≤◌}
 use native.Mathlib.Numerals.{add-one}
@@ -8,9 +8,8 @@ use native.Mathlib.Omega.{arith}
 use lib.IntN.{ℤ, pos}
 use lib.ListN.{length, drop, get_or, replicate, drop_of_length-le}
 use lib.Seq.{drop-cons}
-use Rattle.checker.specs.Claim.{Node, unknown, Quantifier, intQ, set_q, countQ}
+use Rattle.checker.specs.Claim.{Node, unknown, Quantifier, intQ, setQ, countQ}
 use Rattle.checker.specs.Kinds.{number, node_of, quantifier_of}
-use Rattle.checker.specs.Sorts.{is_set_q}
 use Rattle.checker.specs.Words.{word, word_at, nodes_in, quantifiers_in, node_at, quantifier_at, claim_of}
 use Rattle.checker.proofs.Tab.{tab_at, tab-length}
 use Rattle.sentence.specs.Lines.{node_line, node_lines, quantifier_line, quantifier_lines, brackets}
@@ -63,7 +62,7 @@ module _ (ws : List ℤ) where
       where
         more : (q : Quantifier) (qs : List Quantifier) → brackets (q ∷ qs) ≡ opened_by q + brackets qs
         more (intQ some) qs = unfold brackets in omega arith
-        more (set_q one some) qs = unfold brackets in omega arith
+        more (setQ some) qs = unfold brackets in omega arith
         more (countQ some) qs = unfold brackets in omega arith
 
 -- ---- ends
@@ -92,27 +91,20 @@ repeat_end (suc k) b h = absurd (omega arith)
 
 -- ---- brackets
 
--- k is neither 5 nor 6
+-- k is none of 3 to 6
 abbrev pub Opens : ℕ → Type 0
-Opens k = (Unit {0} × (k ≡ 5 → ⊥)) × (k ≡ 6 → ⊥)
+Opens k = (((Unit {0} × (k ≡ 3 → ⊥)) × (k ≡ 4 → ⊥)) × (k ≡ 5 → ⊥)) × (k ≡ 6 → ⊥)
 
-pub opens_one : (k : ℕ) → is_set_q (quantifier_of (pos k)) ≡ false → Opens k → 1 ≡ opened_by (quantifier_of (pos k))
+pub opens_one : (k : ℕ) → Opens k → 1 ≡ opened_by (quantifier_of (pos k))
 unfolding quantifier_of number
-opens_one zero s h = refl
-opens_one (suc zero) s h = refl
-opens_one (suc (suc zero)) s h = refl
-opens_one (suc (suc (suc zero))) s h = absurd (true≢false s)
-opens_one (suc (suc (suc (suc zero)))) s h = absurd (true≢false s)
-opens_one (suc (suc (suc (suc (suc zero))))) s h = absurd (h.0.1 refl)
-opens_one (suc (suc (suc (suc (suc (suc zero)))))) s h = absurd (h.1 refl)
-opens_one (suc (suc (suc (suc (suc (suc (suc zero))))))) s h = absurd (true≢false s)
-opens_one (suc (suc (suc (suc (suc (suc (suc (suc zero)))))))) s h = absurd (true≢false s)
-opens_one (suc (suc (suc (suc (suc (suc (suc (suc (suc k))))))))) s h = refl
-
-pub opens_none : (q : Quantifier) → is_set_q q ≡ true → 0 ≡ opened_by q
-opens_none (intQ some) e = absurd (true≢false (sym e))
-opens_none (set_q one some) e = refl
-opens_none (countQ some) e = absurd (true≢false (sym e))
+opens_one zero h = refl
+opens_one (suc zero) h = refl
+opens_one (suc (suc zero)) h = refl
+opens_one (suc (suc (suc zero))) h = absurd (h.0.0.0.1 refl)
+opens_one (suc (suc (suc (suc zero)))) h = absurd (h.0.0.1 refl)
+opens_one (suc (suc (suc (suc (suc zero))))) h = absurd (h.0.1 refl)
+opens_one (suc (suc (suc (suc (suc (suc zero)))))) h = absurd (h.1 refl)
+opens_one (suc (suc (suc (suc (suc (suc (suc k))))))) h = refl
 
 -- a kind by its number
 pub opens : (j k : ℕ) → k ≡ j → opened_by (quantifier_of (pos j)) ≡ opened_by (quantifier_of (pos k))

@@ -25,6 +25,10 @@ pub const NOT: usize = 27;
 
 pub const ALL_INTEGERS: usize = 2;
 
+pub const SOME_SET: usize = 3;
+
+pub const ALL_SETS: usize = 4;
+
 pub const SOME_COUNT: usize = 5;
 
 pub const ALL_COUNTS: usize = 6;

@@ -5,9 +5,8 @@ ghost use Rattle.lent.specs.Write.{Room, Wrote};
 ghost use Rattle.sentence.specs.Lines.{node_line, quantifier_line};
 
 use crate::expression::put_expression;
-use crate::kinds::{ALL_COUNTS, ALL_INTEGERS, SOME_COUNT};
+use crate::kinds::{ALL_COUNTS, ALL_INTEGERS, ALL_SETS, SOME_COUNT, SOME_SET};
 use crate::pieces::{put_count, put_one};
-use checker::kinds::binds_set;
 
 // The line of node i, which is of this kind and has the words a and b.
 pub fn put_line(out: &mut [u8], at: usize, i: usize, kind: usize, a: i32, b: i32) -> usize
@@ -24,12 +23,11 @@ pub fn put_quantifier(out: &mut [u8], at: usize, i: usize, kind: usize) -> usize
     requires { Room out.old at (quantifier_line i (quantifier_of (pos kind))) }
     ensures { Wrote out.old at (quantifier_line i (quantifier_of (pos kind))) out.new result }
 {
-    if binds_set(kind) {
-        return at;
-    }
     let n = i as u64;
     match kind {
         ALL_INTEGERS => put_one(out, at, b"(forall ((q", n, b" Int))\n"),
+        SOME_SET => at,
+        ALL_SETS => at,
         SOME_COUNT => put_count(out, at, b"(exists ((q", b"(and (>= q", n),
         ALL_COUNTS => put_count(out, at, b"(forall ((q", b"(=> (>= q", n),
         _ => put_one(out, at, b"(exists ((q", n, b" Int))\n"),

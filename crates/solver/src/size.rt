@@ -6,11 +6,10 @@ ghost use Rattle.sentence.specs.Text.{text_of};
 ghost use Rattle.sentence.specs.Lines.{node_line, node_lines, quantifier_line, quantifier_lines, brackets};
 ghost use Rattle.solver.specs.Laid.{Laid, Ten, longest_line, opened_by, root_line};
 
-use crate::kinds::{ALL_COUNTS, SOME_COUNT};
+use crate::kinds::{ALL_COUNTS, ALL_SETS, SOME_COUNT, SOME_SET};
 use crate::lines::{put_line, put_quantifier};
 use crate::pieces::put_one;
 use checker::Shape;
-use checker::kinds::binds_set;
 
 // The first four lines, and the last with the line feed before it.
 const OPENING: usize = 75;
@@ -78,10 +77,9 @@ fn quantifiers_length(words: &[i32], shape: Shape) -> usize
 fn opened_by(kind: usize) -> usize
     ensures { (result ≡ opened_by (quantifier_of (pos kind))) × (result ≤ 2) }
 {
-    if binds_set(kind) {
-        return 0;
-    }
     match kind {
+        SOME_SET => 0,
+        ALL_SETS => 0,
         SOME_COUNT => 2,
         ALL_COUNTS => 2,
         _ => 1,

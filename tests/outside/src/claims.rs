@@ -36,11 +36,9 @@ pub const EXTREMES: [i32; 14] = [
     i32::MAX,
 ];
 
-/// Set quantifiers only, as the decider takes them. Half of the claims are
-/// about sets of any size alone, the others about single ports too.
+/// Set quantifiers only, as the decider takes them.
 pub fn set_quantifiers(random: &mut Random, sets: usize) -> Vec<i32> {
-    let kinds = random.pick(&[&[3, 4][..], &[3, 4, 7, 8]]);
-    (0..sets).map(|_| random.pick(kinds)).collect()
+    (0..sets).map(|_| random.between(3, 4)).collect()
 }
 
 /// So many set quantifiers among so many others, in any order.

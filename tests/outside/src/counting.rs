@@ -8,8 +8,7 @@
 //! constraint, or), whatever the inner counts are. So a count over N adds a
 //! false to an exists and a true to a for-all, and changes neither. With the
 //! outer constraint true every parent is at most N, and the same argument
-//! holds for the next split, down to the innermost. What single ports add to
-//! their constraint leaves it false where it was false.
+//! holds for the next split, down to the innermost.
 //!
 //! The matrix is evaluated over intervals after each assignment, and inner
 //! quantifiers are left out as soon as its truth is settled: they range over

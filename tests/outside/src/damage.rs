@@ -99,7 +99,7 @@ fn layout(words: &[i32]) -> Option<(usize, usize)> {
 fn damage_quantifier(random: &mut Random, words: &mut [i32]) {
     if let Some((nodes, quantifiers @ 1..)) = layout(words) {
         let at = 3 * nodes + random.below(quantifiers);
-        words[at] = random.pick(&[-1, 0, 1, 2, 3, 4, 5, 6, 7, 8, 9, i32::MAX, i32::MIN]);
+        words[at] = random.pick(&[-1, 0, 1, 2, 3, 4, 5, 6, 7, i32::MAX, i32::MIN]);
     }
 }
 

@@ -2,7 +2,7 @@
 //! and refusals 12 and 8.
 
 use crate::region::{patterns, sets_outside, Pattern};
-use crate::table::{check, is_for_all, over_ports, over_sets, refuse, Claim, Node, Refusal, MARK};
+use crate::table::{check, is_for_all, over_sets, refuse, Claim, Node, Refusal, MARK};
 
 /// The counting claim while it grows. Numbers are wider than words, so that
 /// refusal 12 can be seen before anything is cut to a word.
@@ -46,8 +46,7 @@ fn emit_quantifiers(claim: &Claim) -> Emission {
         renewed.push(first);
         if over_sets(word) {
             splits.push((first, word));
-            let count = if is_for_all(word) { 6 } else { 5 };
-            quantifiers.extend(vec![count; 2 << outside]);
+            quantifiers.extend(vec![word + 2; 2 << outside]);
         } else {
             quantifiers.push(word);
         }
@@ -70,17 +69,12 @@ impl Emission {
         }
     }
 
-    /// The sum over a pattern's regions, which are final ones.
+    /// The sum over a pattern's regions, rising.
     fn put_cardinality(&mut self, pattern: &Pattern) -> i64 {
-        let regions = pattern.regions().iter().map(|&region| region as i64);
-        self.put_sum(self.splits.len(), regions)
-    }
-
-    /// The sum over regions after the given number of splits, rising.
-    fn put_sum(&mut self, splits: usize, regions: impl Iterator<Item = i64>) -> i64 {
+        let splits = self.splits.len();
         let mut sum = None;
-        for region in regions {
-            let count = self.put_region(splits, region);
+        for &region in pattern.regions() {
+            let count = self.put_region(splits, region as i64);
             sum = Some(match sum {
                 None => count,
                 Some(so_far) => self.put(13, so_far, count),
@@ -152,21 +146,8 @@ impl Emission {
         body
     }
 
-    /// Every parent region equals the sum of its two children. For single
-    /// ports, joined last, the inside children have one port together.
+    /// Every parent region equals the sum of its two children.
     fn put_constraint(&mut self, split: usize) -> i64 {
-        let parts = self.put_parts(split);
-        if !over_ports(self.splits[split].1) {
-            return parts;
-        }
-        let inside = (0..1i64 << split).map(|parent| 2 * parent + 1);
-        let sum = self.put_sum(split + 1, inside);
-        let one = self.put(11, 1, 0);
-        let equal = self.put(20, sum, one);
-        self.put(25, parts, equal)
-    }
-
-    fn put_parts(&mut self, split: usize) -> i64 {
         let mut joined = None;
         for parent in 0..1i64 << split {
             let whole = self.put_region(split, parent);

@@ -11,7 +11,6 @@ pub mod draft;
 pub mod emit;
 pub mod figure;
 pub mod guard;
-pub mod listing;
 pub mod meaning;
 pub mod random;
 pub mod region;

@@ -13,8 +13,8 @@ mod watch;
 
 use cases::tally::Tally;
 use cases::{
-    bounds, decisions, example_files, examples, exhaustive, figures, limits, ourselves, programs,
-    rows, solver_texts, solvers, stack, streams, tables, truth,
+    bounds, decisions, examples, exhaustive, figures, limits, ourselves, programs, rows,
+    solver_texts, solvers, stack, streams, tables, truth,
 };
 use engine::Programs;
 
@@ -40,7 +40,6 @@ fn main() -> std::process::ExitCode {
 fn without_product(tally: &mut Tally) {
     tally.group("tests themselves: known claims", examples::with_ourselves);
     tally.group("tests themselves: rule and emission against subsets", ourselves::truths);
-    tally.group("tests themselves: steps against listing every split", ourselves::steps);
     tally.group("tests themselves: search against trying all", ourselves::searches);
     tally.group("tests themselves: lengths of emissions", ourselves::lengths);
     tally.group("tests themselves: texts", ourselves::texts);
@@ -49,7 +48,6 @@ fn without_product(tally: &mut Tally) {
 
 fn through_library(tally: &mut Tally) {
     tally.group("known claims", examples::with_library);
-    tally.group("claims of the folder examples", example_files::run);
     tally.group("rows of every length", rows::run);
     tally.group("limits of tables, outputs and sizes", limits::run);
     tally.group("limits of term bounds", bounds::run);
@@ -70,7 +68,7 @@ fn through_library(tally: &mut Tally) {
     tally.group("decisions under every allowance", decisions::every_allowance);
     tally.group("emissions and decisions against subsets", truth::of_sets);
     tally.group("emissions with number quantifiers against subsets", truth::of_mixed);
-    tally.group("claims about sets alone from size 2^S or twice that on", truth::of_pure_claims);
+    tally.group("claims about sets alone from size 2^S on", truth::of_pure_claims);
 }
 
 fn through_programs(tally: &mut Tally, folder: &Programs) {

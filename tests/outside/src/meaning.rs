@@ -7,7 +7,7 @@
 //! just as well, because it leaves the number quantifiers alone.
 
 use crate::rule::divides;
-use crate::table::{is_for_all, over_ports, Claim, Node};
+use crate::table::{is_for_all, Claim, Node};
 
 /// What number quantifiers range over: integers (kinds 1 and 2) from the
 /// first to the last, counts (kinds 5 and 6) from 0 to the highest.
@@ -36,12 +36,11 @@ impl Ranges {
 
 /// The truth of an accepted claim at a size.
 pub fn truth(claim: &Claim, size: u32, ranges: Ranges) -> bool {
-    Trial::new(claim, size, ranges, vec![0; claim.quantifiers.len()]).try_all(0)
-}
-
-/// The matrix of an accepted claim, its sets and numbers being given.
-pub fn matrix(claim: &Claim, size: u32, variables: Vec<i128>) -> bool {
-    Trial::new(claim, size, Ranges::around(size, 0), variables).matrix()
+    let reachable = claim.reachable();
+    let needed = (0..claim.nodes.len()).filter(|&index| reachable[index]).collect();
+    let variables = vec![0; claim.quantifiers.len()];
+    let values = vec![0; claim.nodes.len()];
+    Trial { claim, size, ranges, needed, variables, values }.try_all(0)
 }
 
 struct Trial<'a> {
@@ -55,23 +54,15 @@ struct Trial<'a> {
     values: Vec<i128>,
 }
 
-impl<'a> Trial<'a> {
-    fn new(claim: &'a Claim, size: u32, ranges: Ranges, variables: Vec<i128>) -> Self {
-        let reachable = claim.reachable();
-        let needed = (0..claim.nodes.len()).filter(|&index| reachable[index]).collect();
-        let values = vec![0; claim.nodes.len()];
-        Trial { claim, size, ranges, needed, variables, values }
-    }
-
+impl Trial<'_> {
     fn try_all(&mut self, quantifier: usize) -> bool {
         let Some(&word) = self.claim.quantifiers.get(quantifier) else {
             return self.matrix();
         };
         let values = match word {
-            3 | 4 | 7 | 8 => 0..=self.all_ports(),
+            3 | 4 => 0..=self.all_ports(),
             _ => self.ranges.of(word),
         };
-        let values = values.filter(|set| !over_ports(word) || set.count_ones() == 1);
         // Truth does not depend on the order of trying, nor on stopping.
         let stopping = !is_for_all(word);
         for value in values {

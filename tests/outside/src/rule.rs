@@ -2,9 +2,7 @@
 //! within an allowance.
 
 use crate::region::{patterns, Pattern};
-use crate::table::{
-    check, is_for_all, over_ports, over_sets, refuse, sort, Claim, Node, Refusal, Sort,
-};
+use crate::table::{check, is_for_all, over_sets, refuse, sort, Claim, Node, Refusal, Sort};
 
 pub const SIZE_LIMIT: u32 = 4096;
 pub const BOUND_LIMIT: i128 = 1_000_000_000;
@@ -19,8 +17,7 @@ pub enum Outcome {
 }
 
 /// The decider's answer for a claim at a size with an allowance of steps.
-/// A refusal stands before any spending, even of an allowance of 0; where no
-/// step is needed, an allowance of 0 suffices.
+/// A refusal stands before any spending, even of an allowance of 0.
 pub fn decide(words: &[i32], size: u32, allowance: u64) -> Outcome {
     if let Err(refusal) = admit(words, size) {
         return Outcome::Refused(refusal);
@@ -28,8 +25,7 @@ pub fn decide(words: &[i32], size: u32, allowance: u64) -> Outcome {
     let claim = Claim::read(words);
     let mut run = Run::new(&claim, size, allowance);
     match run.after_splits(0, &[u64::from(size)]) {
-        // Spent means every step of the allowance was taken, and one more
-        // was needed.
+        // Spent means every step of the allowance was taken.
         None => Outcome::Spent(allowance),
         Some(true) => Outcome::True(run.steps),
         Some(false) => Outcome::False(run.steps),
@@ -76,11 +72,6 @@ pub fn divides(divisor: i128, term: i128) -> bool {
     divisor != 0 && term % divisor.abs() == 0
 }
 
-/// The ports inside the set that the regions were split by.
-fn inside_of(children: &[u64]) -> u64 {
-    children.iter().skip(1).step_by(2).sum()
-}
-
 /// One decision under way.
 struct Run<'a> {
     claim: &'a Claim,
@@ -123,27 +114,19 @@ impl<'a> Run<'a> {
 
     /// Splits the next region, and by recursion all after it: the lowest
     /// region varies slowest. `children` holds the regions already split.
-    /// For a single port only sets of one port are tried: any other takes
-    /// no step and stops nothing.
     fn split_region(
         &mut self,
         quantifier: usize,
         parents: &[u64],
         children: &mut Vec<u64>,
     ) -> Option<bool> {
-        let word = self.claim.quantifiers[quantifier];
-        // Exists stops at the first true, for all at the first false.
-        let stopping = !is_for_all(word);
         let Some(&parent) = parents.get(children.len() / 2) else {
-            if over_ports(word) && inside_of(children) != 1 {
-                return Some(!stopping);
-            }
             let counts = children.clone();
             return self.after_splits(quantifier + 1, &counts);
         };
-        // Counts that put a second port inside are left out at once.
-        let most = if over_ports(word) { parent.min(1 - inside_of(children)) } else { parent };
-        for inside in 0..=most {
+        // Exists stops at the first true, for all at the first false.
+        let stopping = !is_for_all(self.claim.quantifiers[quantifier]);
+        for inside in 0..=parent {
             children.extend([parent - inside, inside]);
             let truth = self.split_region(quantifier, parents, children);
             children.truncate(children.len() - 2);

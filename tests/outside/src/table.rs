@@ -77,19 +77,14 @@ pub fn sort(kind: i32) -> Option<Sort> {
     }
 }
 
-/// Whether a quantifier word ranges over sets, be it of one port only.
+/// Whether a quantifier word ranges over sets.
 pub fn over_sets(quantifier: i32) -> bool {
-    matches!(quantifier, 3 | 4) || over_ports(quantifier)
-}
-
-/// Whether a quantifier word ranges over single ports: sets of exactly one.
-pub fn over_ports(quantifier: i32) -> bool {
-    matches!(quantifier, 7 | 8)
+    quantifier == 3 || quantifier == 4
 }
 
 /// Whether a quantifier word is a for-all.
 pub fn is_for_all(quantifier: i32) -> bool {
-    matches!(quantifier, 2 | 4 | 6 | 8)
+    matches!(quantifier, 2 | 4 | 6)
 }
 
 /// The sort table: what a and b are for each kind.
@@ -175,12 +170,12 @@ impl Claim {
 fn check_quantifiers(claim: &Claim) -> Result<usize, Refusal> {
     let first_word = 3 * claim.nodes.len();
     let words = &claim.quantifiers;
-    if let Some(at) = words.iter().position(|word| !(1..=8).contains(word)) {
+    if let Some(at) = words.iter().position(|word| !(1..=6).contains(word)) {
         return refuse(4, first_word + at);
     }
     let sets: Vec<usize> = (0..words.len()).filter(|&at| over_sets(words[at])).collect();
     match sets.get(SET_LIMIT) {
-        Some(&ninth) => refuse(5, first_word + ninth),
+        Some(&seventh) => refuse(5, first_word + seventh),
         None => Ok(sets.len()),
     }
 }

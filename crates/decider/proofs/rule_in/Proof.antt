@@ -1,6 +1,5 @@
 -- `decider::rule_in` meets its contract: the search starts with one region of all ports. Assumes nothing.
 use mathlib.Core.Path.{◌≡◌, refl, sym, ap, ap₂, ◌∙◌}
-use mathlib.Core.Bool.{false}
 use mathlib.Core.List.{List, [], ◌∷◌}
 use Prim.Native.Nat.{ℕ, ◌-◌, ◌^◌, ◌≤◌}
 use native.Mathlib.Nat.{add-zero}
@@ -9,7 +8,6 @@ use borrow.Author.Rules.{rules}
 use lib.IntN.{ℤ}
 use lib.ListN.{length, set, take, length-set}
 use lib.Pow.{pow_pos}
-use Rattle.checker.specs.Claim.{Quantifier}
 use Rattle.checker.specs.Words.{claim_of}
 use Rattle.checker.specs.Sorts.{sets}
 use Rattle.checker.specs.Check.{check_of}
@@ -19,11 +17,10 @@ use Rattle.region.specs.Regions.{over}
 use Rattle.matrix.specs.Bound.{over_bound}
 use Rattle.matrix.specs.Known.{Ready}
 use Rattle.decider.specs.Rule.{rule}
-use Rattle.decider.specs.Plan.{level_at, plan_of, ruling}
+use Rattle.decider.specs.Plan.{plan_of, ruling}
 use Rattle.decider.specs.Answer.{reply}
-use Rattle.decider.specs.Standing.{Inside, Total}
+use Rattle.decider.specs.Standing.{Total}
 use Rattle.decider.proofs.Admitted.{Admitted, admitted}
-use Rattle.decider.proofs.Insides.{begins, inside_none}
 use Rattle.decider.proofs.rule_in.Statement.{statement}
 use Rattle.decider.proofs.rule_in.Tie as tie
 
@@ -55,11 +52,6 @@ front [] n h = absurd (omega arith)
 front (a ∷ []) n h = absurd (omega arith)
 front (a ∷ b ∷ l) n h = refl
 
-none_inside : (qs : List Quantifier) (l : List ℕ) (n : ℕ) → 2 ≤ length l → Inside (level_at qs 1 1) (take 2 (set (set l 0 0) 1 n)) false
-none_inside qs l n h one =
-    let first : (level_at qs 1 1).first ≡ 1 = begins qs 1 (omega arith) in
-    rw (front l n h) (inside_none (level_at qs 1 1) (0 ∷ n ∷ []) (omega arith))
-
 begun : (l : List ℕ) (n : ℕ) → 2 ≤ length l → Total (set (set l 0 0) 1 n) 1 n
 unfolding over
 begun l n h = rw (front l n h) (add-zero n)
@@ -90,7 +82,6 @@ search-requires c κs =
           roomy = (omega (arith, s.requires.1.1.1.nodes.1, (shape s).nodes), simp length-set (omega (arith, s.requires.1.1.1.regions.2, known)));
           place = (omega arith, omega (arith, known, pow_pos s.args.shape.sets));
           total = begun s.args.counts.now s.args.size (two s);
-          inside = none_inside (claim_of s.args.words.now).quantifiers s.args.counts.now s.args.size (two s);
         },
         s.requires.1.0,
       ),
@@ -112,7 +103,7 @@ same-length-5 : tie.Need-same-length-5
 same-length-5 c = search rules
 
 same-length-6 : tie.Need-same-length-6
-same-length-6 c = c.before.before.before.search.auto.1.1.1.1.1.1.1.1.1.1.0 ∙ simp length-set
+same-length-6 c = c.before.before.before.search.auto.1.1.1.1.1.1.1.1.1.0 ∙ simp length-set
 
 returns : tie.Need-returns
 unfolding ruling

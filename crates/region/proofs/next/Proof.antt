@@ -23,8 +23,8 @@ module _ (patterns : List ℕ) (i r : ℕ) (some : 0 < length (regions_from patt
   left = word_in patterns i (r / word_bits) / 2 ^ (r % word_bits)
 
   -- and none is in its word, it is from the next word on
-  left_none : left ≡ 0 → regions_from patterns i (word_bits * (r / word_bits + 1)) ≡ regions_from patterns i r
-  left_none z =
+  left-none : left ≡ 0 → regions_from patterns i (word_bits * (r / word_bits + 1)) ≡ regions_from patterns i r
+  left-none z =
       regions_words patterns i (word_bits * (r / word_bits + 1)) there.0
       ∙ sym (none_left (words_in patterns) (word_in patterns i) r (from_below patterns i r some) z) ∙ sym (regions_words patterns i r there.0)
 
@@ -77,7 +77,7 @@ module _ (c : tie.In-loop invariant-loop decreases-loop) where
   few = omega (arith, from_below table entry r some, words_few table)
 
   passed : regions_from table entry (word_bits * (r / word_bits + 1)) ≡ regions_from table entry r
-  passed = left_none table entry r some (sym c.before.loop.invariant.2 ∙ c.loop-test.true)
+  passed = left-none table entry r some (sym c.before.loop.invariant.2 ∙ c.loop-test.true)
 
 add_r : tie.Need-overflow-add-r invariant-loop decreases-loop
 add_r c = omega (arith, few c)

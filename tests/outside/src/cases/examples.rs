@@ -8,7 +8,6 @@ use outside::text::{decide_prints, reduce_prints, spaced};
 use outside::{emit, table};
 
 use super::calls;
-use super::ports;
 use super::tally::Tally;
 use crate::engine::{self, Programs};
 
@@ -87,9 +86,9 @@ const DIVIDING: [(i32, i32, bool); 17] = [
     (-1_000_000_000, 1_000_000_000, true), (1_000_000_000, -1_000_000_000, true),
 ];
 
-/// The claims with their sizes and outcomes, and those about single ports.
+/// The claims with their sizes and outcomes.
 fn known() -> Vec<(&'static [i32], u32, Outcome)> {
-    let mut known: Vec<(&[i32], u32, Outcome)> = vec![
+    vec![
         (&ONE_ELEMENT, 0, Outcome::False(1)),
         (&ONE_ELEMENT, 1, Outcome::True(2)),
         (&ONE_ELEMENT, 3, Outcome::True(2)),
@@ -100,9 +99,7 @@ fn known() -> Vec<(&'static [i32], u32, Outcome)> {
         (&HALVES, 5, Outcome::True(6)),
         (&EVEN, 0, Outcome::True(1)),
         (&EVEN, 1, Outcome::False(3)),
-    ];
-    known.extend(ports::known());
-    known
+    ]
 }
 
 /// A claim that a constant divides a constant, with its outcome.
@@ -137,12 +134,8 @@ pub fn with_library(tally: &mut Tally) {
 }
 
 /// The claims with known emissions.
-fn emitted() -> [(&'static [i32], Vec<i32>); 3] {
-    [
-        (&ONE_ELEMENT, printed_words()),
-        (&BY_HAND, BY_HAND_EMITTED.to_vec()),
-        (&ports::SAME_PORT, ports::SAME_PORT_EMITTED.to_vec()),
-    ]
+fn emitted() -> [(&'static [i32], Vec<i32>); 2] {
+    [(&ONE_ELEMENT, printed_words()), (&BY_HAND, BY_HAND_EMITTED.to_vec())]
 }
 
 fn printed_words() -> Vec<i32> {
@@ -170,14 +163,9 @@ pub fn with_programs(tally: &mut Tally, programs: &Programs) {
             _ => unreachable!("every known outcome is true or false"),
         };
         let size = size.to_string();
-        for allowance in [steps, 1000] {
-            let allowance = allowance.to_string();
-            expect("decide", &[&size, &allowance], words, &format!("{name} {steps}\n"));
-        }
-        if let Some(short) = steps.checked_sub(1) {
-            let short = short.to_string();
-            expect("decide", &[&size, &short], words, &format!("spent {short}\n"));
-        }
+        expect("decide", &[&size, "1000"], words, &format!("{name} {steps}\n"));
+        let short = (steps - 1).to_string();
+        expect("decide", &[&size, &short], words, &format!("spent {short}\n"));
     }
 }
 

@@ -47,7 +47,7 @@ pub fn one_node(tally: &mut Tally) {
     let node = [(-1..=29).collect(), field.clone(), field.clone()];
     let trailer = |quantifiers: i32| vec![field.clone(), vec![1], vec![quantifiers], vec![MARK]];
     every_run(&[&node[..], &trailer(0)].concat(), |words| both(tally, words));
-    let quantifier = vec![(-1..=9).collect()];
+    let quantifier = vec![(-1..=8).collect()];
     every_run(&[&node[..], &quantifier, &trailer(1)].concat(), |words| both(tally, words));
 }
 
@@ -56,7 +56,7 @@ pub fn one_node(tally: &mut Tally) {
 pub fn two_nodes(tally: &mut Tally) {
     let field: Vec<i32> = (-1..=2).collect();
     let node = [(0..=28).collect(), field.clone(), field.clone()];
-    let end = [(0..=9).collect(), field.clone(), vec![2], vec![1], vec![MARK]];
+    let end = [(0..=7).collect(), field.clone(), vec![2], vec![1], vec![MARK]];
     every_run(&[&node[..], &node[..], &end[..]].concat(), |words| {
         calls::check(tally, words);
         if outside::table::check(words).is_ok() {
@@ -88,9 +88,9 @@ pub fn well_sorted(tally: &mut Tally) {
         }
     };
     every_draft(Draft::new(&[]), 4, &mut visit);
-    for outer in 1..=8 {
+    for outer in 1..=6 {
         every_draft(Draft::new(&[outer]), if over_sets(outer) { 4 } else { 3 }, &mut visit);
-        for inner in 1..=8 {
+        for inner in 1..=6 {
             every_draft(Draft::new(&[outer, inner]), 3, &mut visit);
         }
     }

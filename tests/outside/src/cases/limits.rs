@@ -9,7 +9,6 @@ use outside::text::spaced;
 
 use super::calls;
 use super::examples::{HALVES, ONE_ELEMENT};
-use super::ports::PORTS_WITHIN;
 use super::tally::Tally;
 
 /// A claim of so many nodes: constants and, last, an equality.
@@ -38,15 +37,11 @@ pub fn of_term(quantifiers: &[i32], put: impl FnOnce(&mut Draft) -> i32) -> Vec<
     draft.finished()
 }
 
-/// As many quantifiers over sets of any size as there may be.
-pub const SETS: [i32; 8] = [4, 3, 4, 3, 4, 3, 4, 3];
-/// As many over single ports. No other eight have longer constraints.
-pub const PORTS: [i32; 8] = [8; 8];
-
-/// The claim with the largest emission for these sets: 1,024 nodes, each
+/// The claim with the largest emission for so many sets: 1,024 nodes, each
 /// relation with all regions on one side and none on the other.
-pub fn largest(sets: &[i32]) -> Vec<i32> {
-    let mut draft = Draft::new(sets);
+pub fn largest(sets: usize) -> Vec<i32> {
+    let quantifiers = [4, 3, 4, 3, 4, 3, 4, 3];
+    let mut draft = Draft::new(&quantifiers[..sets]);
     draft.put(3, 0, 0);
     draft.put(2, 0, 0);
     while draft.nodes() < 1024 {
@@ -59,13 +54,13 @@ pub fn run(tally: &mut Tally) {
     counts(tally);
     sets(tally);
     outputs(tally);
-    let most_sets = [6, 7, 8].map(|sets| largest(&SETS[..sets]));
-    let most_ports = [6, 7, 8].map(|ports| largest(&PORTS[..ports]));
-    for words in [1023, 1024, 1025].map(of_nodes).iter().chain(&most_sets).chain(&most_ports) {
-        calls::check(tally, words);
-        calls::reduce(tally, words);
+    for words in
+        [of_nodes(1023), of_nodes(1024), of_nodes(1025), largest(6), largest(7), largest(8)]
+    {
+        calls::check(tally, &words);
+        calls::reduce(tally, &words);
         for size in [0, 1, 4096, 4097] {
-            calls::decide(tally, words, size, 3);
+            calls::decide(tally, &words, size, 3);
         }
     }
     sizes(tally);
@@ -116,7 +111,6 @@ fn counts(tally: &mut Tally) {
 }
 
 /// Eight sets pass, a ninth is refused at its word, after any refusal 4.
-/// Single ports are sets, and there is no quantifier of kind 9.
 fn sets(tally: &mut Tally) {
     accepted(tally, &of_quantifiers(&[3, 4, 3, 4, 3, 4]));
     accepted(tally, &of_quantifiers(&[3, 4, 3, 4, 3, 4, 3]));
@@ -124,12 +118,8 @@ fn sets(tally: &mut Tally) {
     refused(tally, &of_quantifiers(&[3, 4, 3, 4, 3, 4, 3, 4, 3]), 5, 6 + 8);
     refused(tally, &of_quantifiers(&[1, 3, 4, 2, 3, 4, 5, 3, 4, 6, 4, 3, 1, 3, 3]), 5, 6 + 13);
     refused(tally, &of_quantifiers(&[3, 4, 3, 4, 3, 4, 3, 4, 3, 0]), 4, 6 + 9);
-    refused(tally, &of_quantifiers(&[9, 4, 3, 4, 3, 4, 3, 3, 3, 3]), 4, 6);
+    refused(tally, &of_quantifiers(&[7, 4, 3, 4, 3, 4, 3, 3, 3, 3]), 4, 6);
     accepted(tally, &of_quantifiers(&[3, 4, 3, 1, 3, 4, 3, 5]));
-    accepted(tally, &of_quantifiers(&[7, 8, 3, 4, 7, 8, 7, 8]));
-    refused(tally, &of_quantifiers(&[7, 8, 7, 8, 7, 8, 7, 8, 7]), 5, 6 + 8);
-    refused(tally, &of_quantifiers(&[3, 4, 1, 3, 4, 3, 4, 3, 4, 8, 7]), 5, 6 + 9);
-    refused(tally, &of_quantifiers(&[8, 7, 8, 7, 8, 7, 8, 7, 3, 9]), 4, 6 + 9);
 }
 
 /// Output slices: exact, and one word short.
@@ -147,13 +137,8 @@ fn outputs(tally: &mut Tally) {
     // constants, 2 equals, an and: 2R + 5. Then the constraint part, with
     // one more for each for-all, and 2R - 2 quantifiers.
     for (sets, regions, for_alls) in [(6, 64, 3), (7, 128, 4), (8, 256, 4)] {
-        let nodes = 1022 * (2 * regions + 5) + 6 * (regions - 1);
-        let words = |nodes: usize| 3 * nodes + 2 * regions - 2 + 4;
-        needed(&largest(&SETS[..sets]), words(nodes + for_alls));
-        // Each single port has besides a sum over half of its regions, a
-        // constant, an equal and an and. Here all of them are for-alls.
-        let ports = 2 * (regions - 1) + 2 * sets;
-        needed(&largest(&PORTS[..sets]), words(nodes + sets + ports));
+        let nodes = 1022 * (2 * regions + 5) + 6 * (regions - 1) + for_alls;
+        needed(&largest(sets), 3 * nodes + 2 * regions - 2 + 4);
     }
 }
 
@@ -165,9 +150,6 @@ fn sizes(tally: &mut Tally) {
         calls::decided(tally, &HALVES, size, steps - 1, Outcome::Spent(steps - 1));
         calls::decided(tally, &HALVES, size, u64::MAX, Outcome::True(steps));
     }
-    // One step for no port in x and one for all, else one in x and one not.
-    calls::decided(tally, &PORTS_WITHIN, 4096, 8192, Outcome::True(8192));
-    calls::decided(tally, &PORTS_WITHIN, 4096, 8191, Outcome::Spent(8191));
     for size in [4097, 5000, 65_536, 65_537, 1 << 31, u32::MAX] {
         for allowance in [0, 1, u64::MAX] {
             let refusal = Refusal { number: 9, place: 0 };

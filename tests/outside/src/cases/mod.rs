@@ -3,13 +3,11 @@
 pub mod bounds;
 pub mod calls;
 pub mod decisions;
-pub mod example_files;
 pub mod examples;
 pub mod exhaustive;
 pub mod figures;
 pub mod limits;
 pub mod ourselves;
-pub mod ports;
 pub mod programs;
 pub mod properties;
 pub mod rows;

@@ -4,16 +4,14 @@
 use outside::claims::{any_claim, any_quantifiers, joined_claim, set_quantifiers, Words};
 use outside::counting;
 use outside::emit;
-use outside::listing;
 use outside::meaning::{self, Ranges};
 use outside::random::Random;
 use outside::region::{patterns, Pattern};
 use outside::rule::{self, Outcome};
 use outside::scribble::dress;
-use outside::table::{is_for_all, over_sets, Claim, Node};
+use outside::table::{Claim, Node};
 use outside::text::{self, spaced};
 
-use super::properties::port_nodes;
 use super::tally::Tally;
 use super::truth::same_truth;
 
@@ -50,26 +48,6 @@ pub fn truths(tally: &mut Tally) {
                 let ranges = Ranges::around(size, spare);
                 let found = counting::truth(&Claim::read(&emission), size, ranges);
                 tally.compare(&expected, &found, input);
-            }
-        }
-    }
-}
-
-/// The rule's search takes the very steps that listing every split comes to,
-/// and is spent with one step less.
-pub fn steps(tally: &mut Tally) {
-    let mut random = Random::new(35);
-    for _ in 0..2_000 {
-        let sets = random.below(4);
-        let quantifiers = set_quantifiers(&mut random, sets);
-        let words = joined_claim(&mut random, &quantifiers, 4);
-        for size in 0..=3 {
-            let input = || format!("our steps at size {size} of words: {}", spaced(&words));
-            let (truth, steps) = listing::ruling(&Claim::read(&words), size);
-            let listed = if truth { Outcome::True(steps) } else { Outcome::False(steps) };
-            tally.compare(&listed, &rule::decide(&words, size, steps), input);
-            if let Some(short) = steps.checked_sub(1) {
-                tally.compare(&Outcome::Spent(short), &rule::decide(&words, size, short), input);
             }
         }
     }
@@ -119,9 +97,8 @@ pub fn lengths(tally: &mut Tally) {
                 _ => 1,
             }
         };
-        let for_alls =
-            quantifiers.iter().filter(|&&word| over_sets(word) && is_for_all(word)).count();
-        let constraints = 6 * ((1 << sets) - 1) + for_alls + port_nodes(&quantifiers);
+        let for_alls = quantifiers.iter().filter(|&&word| word == 4).count();
+        let constraints = 6 * ((1 << sets) - 1) + for_alls;
         let expected = claim.nodes.iter().map(run).sum::<usize>() + constraints;
         let found = emit::reduce(&words, usize::MAX).map(|emitted| Claim::read(&emitted));
         tally.compare(&Ok(expected), &found.map(|emitted| emitted.nodes.len()), || {

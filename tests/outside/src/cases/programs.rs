@@ -9,7 +9,7 @@ use outside::scribble::{dress, edges, scribble};
 use outside::text::{decide_prints, reduce_prints, spaced, LENT_WORDS};
 
 use super::examples::{EVEN, ONE_ELEMENT};
-use super::limits::{largest, of_nodes, PORTS, SETS};
+use super::limits::{largest, of_nodes};
 use super::tally::Tally;
 use crate::engine::Programs;
 
@@ -114,8 +114,7 @@ pub fn long_outputs(tally: &mut Tally, programs: &Programs) {
         tally.compare(&Ok(length), &emitted, || format!("our emission of {length} words"));
         reduce(tally, programs, spaced(&words).as_bytes());
     }
-    let sets = [&SETS[..6], &SETS, &PORTS].map(largest);
-    for words in sets.into_iter().chain([1024, 1025].map(of_nodes)) {
+    for words in [largest(6), largest(8), of_nodes(1024), of_nodes(1025)] {
         reduce(tally, programs, spaced(&words).as_bytes());
         decide(tally, programs, &[b"1", b"70"], spaced(&words).as_bytes());
     }

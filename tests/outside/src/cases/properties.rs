@@ -1,18 +1,11 @@
 //! What the scope says of every emission besides its words: its size, its
 //! alternations, and what happens when it is handed back.
 
-use outside::region::sets_outside;
-use outside::table::{
-    is_for_all, over_ports, over_sets, sort, Claim, Sort, NODE_LIMIT, QUANTIFIER_LIMIT,
-};
+use outside::table::{is_for_all, over_sets, sort, Claim, Sort, NODE_LIMIT, QUANTIFIER_LIMIT};
 use outside::text::spaced;
 
 use super::tally::Tally;
 use crate::engine::{self, refused_row};
-
-/// The bound at the limits of claims: no emission has more of either.
-const MOST_NODES: usize = 531_472;
-const MOST_QUANTIFIERS: usize = 534;
 
 /// The properties of an emission that do not follow it word by word.
 pub fn of_emission(tally: &mut Tally, words: &[i32], emission: &[i32]) {
@@ -20,8 +13,7 @@ pub fn of_emission(tally: &mut Tally, words: &[i32], emission: &[i32]) {
     let input = || format!("emission of words: {}", spaced(words));
     let regions = 1usize << claim.sets();
     let most = claim.nodes.len() * (2 * regions + 5) + 6 * (regions - 1) + claim.sets();
-    let most = (most + port_nodes(&claim.quantifiers)).min(MOST_NODES);
-    let within = emitted.nodes.len() <= most && emitted.quantifiers.len() <= MOST_QUANTIFIERS;
+    let within = emitted.nodes.len() <= most;
     let alternations = (alternations(&claim.quantifiers), alternations(&emitted.quantifiers));
     let set_free = claim.nodes.iter().all(|node| sort(node.kind) != Some(Sort::Set));
     let same = claim.sets() > 0 || !set_free || words == emission;
@@ -33,14 +25,6 @@ pub fn of_emission(tally: &mut Tally, words: &[i32], emission: &[i32]) {
         input,
     );
     handed_back(tally, words, emission, &emitted);
-}
-
-/// What single ports add to the constraints: 2 x 2^e + 2 nodes for each one
-/// with e sets outside it.
-pub fn port_nodes(quantifiers: &[i32]) -> usize {
-    let outside = sets_outside(quantifiers);
-    let ports = quantifiers.iter().zip(outside).filter(|(&word, _)| over_ports(word));
-    ports.map(|(_, outside)| 2 * (1 << outside) + 2).sum()
 }
 
 /// Adjacent quantifiers of which one is an exists, the other a for-all.

@@ -7,10 +7,9 @@ use outside::meaning::{self, Ranges};
 use outside::random::Random;
 use outside::rule::{self, Outcome};
 use outside::table::{over_sets, Claim};
+use outside::text;
 
-use super::example_files::{words_of, EXAMPLES};
 use super::examples::{EVEN, HALVES, NOT_TRIVIAL, ONE_ELEMENT, WHOLE_IN_EMPTY};
-use super::ports::{EVERY_PORT, PORTS_WITHIN, PORT_WITHIN, SAME_PORT, SOME_PORT, TWO_PORTS};
 
 /// How far number quantifiers pass the size, in claims that have some.
 const SPARE: i32 = 2;
@@ -21,13 +20,21 @@ const MIDDLE: u32 = 8;
 /// Steps for a decision at a larger size.
 pub const STEPS: u64 = 300_000;
 
+const EXAMPLES: [&str; 5] = [
+    include_str!("../../../../examples/at-most-three-silenced.claim"),
+    include_str!("../../../../examples/every-mailed-port-alarms.claim"),
+    include_str!("../../../../examples/false-at-small-sites.claim"),
+    include_str!("../../../../examples/loose-cable.claim"),
+    include_str!("../../../../examples/silenced-within-alarming.claim"),
+];
+
 /// Known claims, then random ones about sets alone and with numbers.
 pub fn claims() -> Vec<Vec<i32>> {
-    let mut claims: Vec<Vec<i32>> = EXAMPLES.map(words_of).to_vec();
-    let of_sets = [&ONE_ELEMENT[..], &NOT_TRIVIAL, &WHOLE_IN_EMPTY, &HALVES, &EVEN];
-    let of_ports =
-        [&SOME_PORT[..], &EVERY_PORT, &PORT_WITHIN, &PORTS_WITHIN, &TWO_PORTS, &SAME_PORT];
-    claims.extend(of_sets.iter().chain(&of_ports).map(|words| words.to_vec()));
+    let read = |example: &str| text::read(example.as_bytes()).expect("an example is words");
+    let mut claims: Vec<Vec<i32>> = EXAMPLES.map(read).to_vec();
+    for words in [&ONE_ELEMENT[..], &NOT_TRIVIAL, &WHOLE_IN_EMPTY, &HALVES, &EVEN] {
+        claims.push(words.to_vec());
+    }
     claims.push(guarded(&figure_6(PRINTED), SPARE));
     let mut random = Random::new(51);
     for round in 0..320 {

@@ -10,7 +10,7 @@ use outside::solver_text::smt_prints;
 use outside::text::{spaced, LENT_WORDS};
 
 use super::examples::{EVEN, ONE_ELEMENT};
-use super::limits::{largest, of_nodes, PORTS, SETS};
+use super::limits::{largest, of_nodes};
 use super::programs::emitting;
 use super::solver_claims::claims;
 use super::tally::Tally;
@@ -97,10 +97,8 @@ pub fn run(tally: &mut Tally, programs: &Programs) {
     for length in LENT_WORDS - 3..=LENT_WORDS + 3 {
         smt(spaced(&emitting(length)).as_bytes());
     }
-    let sets = [&SETS[..6], &SETS, &PORTS].map(largest);
-    let others = [of_nodes(1024), of_nodes(1025), longest_lines()];
-    for words in sets.iter().chain(&others) {
-        smt(spaced(words).as_bytes());
+    for words in [largest(6), largest(8), of_nodes(1024), of_nodes(1025), longest_lines()] {
+        smt(spaced(&words).as_bytes());
     }
 }
 

@@ -4,7 +4,9 @@
 use std::alloc::{alloc, dealloc, Layout};
 use std::ffi::c_void;
 
-use super::limits::{largest, of_nodes, of_quantifiers, PORTS, SETS};
+use outside::draft::Draft;
+
+use super::limits::{largest, of_nodes};
 use super::tally::Tally;
 use crate::engine;
 
@@ -15,11 +17,6 @@ const LENT: usize = 1024 * 1024;
 const PATTERN: u8 = 0xA5;
 /// The splits of eight sets: the search is nowhere deeper.
 const DEEPEST: usize = 255;
-/// Eight quantifiers of a kind at a size: in how many regions in turn there
-/// is a choice, and in how many more with one port more. A set has one in
-/// every region with ports, of which the outermost set has just one; a
-/// single port has none in the last of them.
-const MEASURED: [(i32, u32, usize, usize); 2] = [(4, 1, 8, 7), (8, 2, 7, 6)];
 
 extern "C" {
     fn pthread_attr_init(attributes: *mut c_void) -> i32;
@@ -70,25 +67,26 @@ fn taken(mut call: Call) -> usize {
     }
 }
 
+/// For all of eight sets, whole equals whole: every count is tried.
+fn exhaustive() -> Vec<i32> {
+    let mut draft = Draft::new(&[4; 8]);
+    draft.put(3, 0, 0);
+    draft.put(23, 0, 0);
+    draft.finished()
+}
+
 pub fn run(tally: &mut Tally) {
     let mut most = 0;
-    for words in [of_nodes(1024), largest(&SETS[..6]), largest(&SETS), largest(&PORTS)] {
+    for words in [of_nodes(1024), largest(6), largest(8)] {
         most = most.max(taken(Call::Check(words.clone())));
         most = most.max(taken(Call::Reduce(words.clone(), vec![0; 1_700_000])));
         most = most.max(taken(Call::Decide(words, 1)));
     }
-    let (mut level, mut deepest) = (0, 0);
-    for (kind, size, splits, more) in MEASURED {
-        let [less, one_more] = [size, size + 1].map(|size| taken(exhaustive(kind, size)));
-        level = level.max(one_more.saturating_sub(less).div_ceil(more));
-        deepest = deepest.max(less + (DEEPEST - splits) * level);
-    }
+    // With one port the search is eight splits deep, with two sixteen.
+    let [one, two] = [1, 2].map(|size| taken(Call::Decide(exhaustive(), size)));
+    let level = two.saturating_sub(one).div_ceil(8);
+    let deepest = one + (DEEPEST - 8) * level;
     println!("  bytes of stack: {most} for the largest tables, {level} a split, {deepest} for the deepest search");
     tally.compare(&true, &(most <= STATED), || format!("{most} bytes of stack"));
     tally.compare(&true, &(deepest <= STATED), || format!("{deepest} bytes of stack"));
-}
-
-/// For all of eight sets, whole equals whole: every count is tried.
-fn exhaustive(kind: i32, size: u32) -> Call {
-    Call::Decide(of_quantifiers(&[kind; 8]), size)
 }

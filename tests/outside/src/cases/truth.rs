@@ -6,7 +6,7 @@ use outside::counting;
 use outside::meaning::{self, Ranges};
 use outside::random::Random;
 use outside::rule::admit;
-use outside::table::{over_ports, Claim};
+use outside::table::Claim;
 use outside::text::spaced;
 
 use super::calls;
@@ -14,8 +14,8 @@ use super::tally::Tally;
 use crate::engine;
 
 /// Outcome words of a row.
-pub const TRUE: u64 = 1;
-pub const FALSE: u64 = 2;
+const TRUE: u64 = 1;
+const FALSE: u64 = 2;
 
 /// Emissions and decisions of claims about sets alone.
 pub fn of_sets(tally: &mut Tally) {
@@ -85,14 +85,13 @@ pub fn same_truth(tally: &mut Tally, words: &[i32], emission: &[i32], size: u32,
 }
 
 /// A claim without number terms or comparisons does not change its truth
-/// from size 2^S on, or with single ports from twice that on.
+/// from size 2^S on.
 pub fn of_pure_claims(tally: &mut Tally) {
     let mut random = Random::new(23);
     for _ in 0..2_000 {
         let sets = random.below(4);
         let words = pure_claim(&mut random, sets, 5);
-        let ports = Claim::read(&words).quantifiers.iter().any(|&word| over_ports(word));
-        let enough = (if ports { 2u32 } else { 1 }) << sets;
+        let enough = 1u32 << sets;
         let at_enough = engine::decide(&words, enough, 1_000_000)[0];
         for size in [enough + 1, enough + 2] {
             let found = engine::decide(&words, size, 1_000_000)[0];

@@ -13,7 +13,7 @@ array-copy-out-result c = search rules
 
 returns : tie.Need-returns
 unfolding range_of
-returns c = tabulated range_of _ 9 c.before.before.args.kind c.before.if1.true
+returns c = tabulated range_of _ 7 c.before.before.args.kind c.before.if1.true
 
 returns-2 : tie.Need-returns-2
 unfolding range_of

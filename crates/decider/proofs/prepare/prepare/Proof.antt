@@ -1,15 +1,12 @@
 -- `decider::prepare::prepare` meets its contract. Assumes nothing.
 use mathlib.Core.Path.{◌≡◌, sym, ap, subst, ◌∙◌}
-use Prim.Native.Nat.{◌^◌, ◌≤◌, ◌<◌}
+use Prim.Native.Nat.{◌^◌}
 use native.Mathlib.Omega.{arith}
 use borrow.Author.Rules.{rules}
-use lib.ListN.{length}
-use lib.Pow.{pow_pos}
-use Rattle.checker.specs.Words.{claim_of}
+use Rattle.checker.specs.Sorts.{sets}
 use Rattle.checker.proofs.Claims.{sound}
 use Rattle.matrix.specs.Known.{Scheduled}
-use Rattle.decider.specs.Plan.{level_at}
-use Rattle.decider.specs.Standing.{last_at}
+use Rattle.decider.proofs.Levels.{sets_all}
 use Rattle.decider.proofs.prepare.prepare.Statement.{statement}
 use Rattle.decider.proofs.prepare.prepare.Tie as tie
 
@@ -19,25 +16,12 @@ prepare-requires c κs = search rules
 arrange-requires : tie.Need-arrange-requires
 arrange-requires c κs = search rules
 
-fill-turns-requires : tie.Need-fill-turns-requires
-fill-turns-requires c κs = search rules
-
--- how many regions there are
-module _ (f : tie.After-fill-turns) where
-  abbrev s : tie.Start
-  s = f.before.before.before.before.before.before.before.before.before.before.before.before.before.before.before.before.before.before
-
-  final : 2 ^ s.args.shape.sets ≡ f.fill-turns.result
-  final = ap (λ n. 2 ^ n) (sound s.args.words.now _ s.pre.0.0).sets ∙ sym f.fill-turns.ensures.0
-
-  some : 0 < f.fill-turns.result
-  some = omega (arith, final, pow_pos s.args.shape.sets)
-
-  room : f.fill-turns.result ≤ length f.fill-turns.last.1.1.0
-  room = omega (arith, final, s.pre.1.2, f.fill-turns.kept.1.1.0)
-
-plain-splits-requires : tie.Need-plain-splits-requires
-plain-splits-requires c κs = let f = c.before.before.before in (some f, room f)
+fill-kinds-requires : tie.Need-fill-kinds-requires
+fill-kinds-requires c κs =
+    let s = c.before.before.before.before.before.before.before.before.before.before.before.before.before.before.before.before.before in
+    let claim = sound s.args.words.now _ s.requires.0.0 in
+    let all : s.args.shape.quantifiers ≡ s.args.shape.sets = claim.quantifiers ∙ sym (sets_all _ s.requires.0.1) ∙ sym claim.sets in
+    (s.requires.0.0, (s.requires.0.1, rw all s.requires.1.2))
 
 same_length : tie.Need-same-length
 same_length c = search rules
@@ -53,22 +37,20 @@ same-length-4 c = search rules
 
 returns : tie.Need-returns
 returns c =
-    let f = c.before.before.before.before in
-    let s = s f in
-    let claim = sound s.args.words.now _ s.pre.0.0 in
-    let arranged = f.before.before.before.before.before.before.arrange in
-    let prepared = f.before.before.before.before.before.before.before.before.before.before.before.before.prepare in
-    let coded = f.fill-turns.ensures.1 in
-    let plain = c.plain-splits.ensures in
+    let s = c.before.before.before.before.before.before.before.before.before.before.before.before.before.before.before.before.before.before.before.before in
+    let claim = sound s.args.words.now _ s.requires.0.0 in
+    let prepared = c.before.before.before.before.before.before.before.before.before.before.before.before.before.before.prepare in
+    let arranged = c.before.before.before.before.before.before.before.before.arrange in
+    let filled = c.before.before.fill-kinds in
+    let final : 2 ^ s.args.shape.sets ≡ filled.result = ap (λ n. 2 ^ n) claim.sets ∙ sym filled.ensures.0 in
     record {
-      final = f.fill-turns.ensures.0;
+      final = filled.ensures.0;
       filled = rw claim.nodes at prepared.ensures.0;
       ordered = arranged.ensures.0.0;
       rooted = arranged.ensures.0.1;
-      long = omega (arith, final f, s.pre.1.1, arranged.auto.1.1.1.1.0);
-      turning =
-          record { long = room f; coded = coded; few = plain.0; any = λ h a b. let v = level_at (claim_of s.args.words.now).quantifiers 1 h in plain.1 h a b v.some v.one (last_at v h) (coded h a (omega (arith, b, plain.0))) };
-      scheduled = subst (λ k. Scheduled prepared.new.1.1.0 k arranged.new.1.1.1.0 arranged.result arranged.new.1.1.1.1.0) (final f) arranged.ensures.1;
+      long = (omega (arith, final, s.requires.1.2, filled.auto.1.1.0), omega (arith, final, s.requires.1.1, arranged.auto.1.1.1.1.0));
+      quantified = filled.ensures.1;
+      scheduled = subst (λ k. Scheduled prepared.new.1.1.0 k arranged.new.1.1.1.0 arranged.result arranged.new.1.1.1.1.0) final arranged.ensures.1;
     }
 
 pub prepare-spec : {M : Type 1} → statement M
@@ -77,8 +59,7 @@ prepare-spec =
     (tie.spec
     prepare-requires
     arrange-requires
-    fill-turns-requires
-    plain-splits-requires
+    fill-kinds-requires
     same_length
     same-length-2
     same-length-3

@@ -1,48 +1,40 @@
--- `decider::search::splits` meets its contract: what is left of the tries answers as all of them. Assumes nothing.
-use mathlib.Core.Path.{◌≡◌, refl, sym, ap, subst, ◌∙◌}
+use mathlib.Core.Path.{◌≡◌, sym, ap, subst, ◌∙◌}
 use mathlib.Core.Logic.{⊎_elim}
-use mathlib.Core.Bool.{Bool, ◌&&◌, ◌||◌}
+use mathlib.Core.Bool.{Bool}
 use mathlib.Core.List.{List}
 use Prim.Native.Nat.{ℕ, ◌+◌, ◌-◌, ◌^◌, ◌≤◌, ◌<◌}
 use native.Mathlib.Omega.{arith}
 use borrow.Author.Rules.{rules}
 use lib.IntN.{ℤ}
-use lib.Dec.{ltb}
 use lib.ListN.{length, take, get_or}
-use lib.Seq.{get_or-take}
 use Rattle.checker.specs.Claim.{Claim}
 use Rattle.checker.specs.Words.{word, claim_of}
 use Rattle.checker.specs.Check.{max_sets}
 use Rattle.matrix.specs.Known.{Counts, Known, Kept}
 use Rattle.matrix.proofs.Known.{known_kept}
 use Rattle.decider.specs.Rule.{Ruling, rule, tries, split}
-use Rattle.decider.specs.Plan.{Level, level_at, plan_of}
+use Rattle.decider.specs.Plan.{plan_of}
 use Rattle.decider.specs.Answer.{reply}
-use Rattle.decider.specs.Standing.{last_at, Total, finals, Inside, Passed, Prepared, Guided}
+use Rattle.decider.specs.Standing.{Total, finals, exists_at, Passed, Prepared, Guided}
 use Rattle.decider.specs.Decision.{max_size}
 use Rattle.decider.proofs.Answer.{tries_none, stopped, went_on, on_kept}
 use Rattle.decider.proofs.Heap.{same_at, shorter, next, leaf, run, given_is, still, total_more}
 use Rattle.decider.proofs.Settling.{finals_counts, total_at, known_split, known_passed, prepared_less, prepared_kept, guided_kept}
-use Rattle.decider.proofs.Passing.{inside_given}
 use borrow.Fn.Kinds.{In}
 use borrow.Fn.PlainCycle.{Measures, is, falls, and}
 use Rattle.decider.proofs.search.splits.Reads as splits
 use Rattle.decider.proofs.search.splits.Kinds as splits-kinds
 use Rattle.decider.proofs.search.+splits.Lts-splits as splits-lts
-use Rattle.decider.proofs.pass.children.Reads as children-reads
-use Rattle.decider.proofs.pass.inside_next.Reads as inside-next-reads
-use Rattle.decider.proofs.pass.pass.Reads as pass-reads
-use Rattle.decider.proofs.pass.span_at.Reads as span-at-reads
 use Rattle.decider.proofs.search.advance.Reads as advance-reads
+use Rattle.decider.proofs.search.children.Reads as children-reads
 use Rattle.decider.proofs.search.ends.Reads as ends-reads
+use Rattle.decider.proofs.search.pass.Reads as pass-reads
 use Rattle.decider.proofs.search.step.Reads as step-reads
-use Rattle.decider.proofs.turns.is_exists.Reads as is-exists-reads
-use Rattle.decider.proofs.turns.stays.Reads as stays-reads
 use Rattle.decider.proofs.search.+splits.{statement}
 use Rattle.decider.proofs.search.+splits.Tie.{close}
 
 abbrev μ-splits : Measures 7 splits-kinds.ps ℕ
-μ-splits κs a = a.1.1.1.1.1.1.1.1.1.1.0 - a.1.1.1.1.1.1.1.1.1.1.1.1.1.0
+μ-splits κs a = a.1.1.1.1.1.1.1.1.1.1.0 - a.1.1.1.1.1.1.1.1.1.1.1.1.0
 
 abbrev splits-at : ℕ → In 7 splits-kinds.ps
 splits-at t = and 7 splits-kinds.ps (is 7 splits-kinds.ps μ-splits t) splits.Pre
@@ -51,41 +43,20 @@ abbrev splits-below : ℕ → In 7 splits-kinds.ps
 splits-below t = and 7 splits-kinds.ps (falls 7 splits-kinds.ps ◌<◌ μ-splits t) splits.Pre
 
 abbrev told : ℕ → splits-lts.Claims
-told t = (
-  advance-reads.Asked,
-  advance-reads.Learnt,
-  is-exists-reads.Asked,
-  is-exists-reads.Learnt,
-  span-at-reads.Asked,
-  span-at-reads.Learnt,
-  stays-reads.Asked,
-  stays-reads.Learnt,
-  children-reads.Asked,
-  children-reads.Learnt,
-  inside-next-reads.Asked,
-  inside-next-reads.Learnt,
-  pass-reads.Asked,
-  pass-reads.Learnt,
-  step-reads.Asked,
-  step-reads.Learnt,
-  splits-below t,
-  splits.Post,
-  ends-reads.Asked,
-  ends-reads.Learnt,
-)
+told t = (advance-reads.Asked, advance-reads.Learnt, children-reads.Asked, children-reads.Learnt, pass-reads.Asked, pass-reads.Learnt, step-reads.Asked, step-reads.Learnt, splits-below t, splits.Post, ends-reads.Asked, ends-reads.Learnt)
 
 abbrev splits-Inv-loop : splits-lts.invariant-loop
-splits-Inv-loop counts₀ values₀ words patterns order turns upto rows root size regions plain known h inside next' turn some stay last rest₀ k₀ counts values rest k =
-    (k ≤ last + 1)
+splits-Inv-loop counts₀ values₀ words patterns order kinds upto rows root size regions known h next' some whole rest₀ k₀ counts values rest k =
+    (k ≤ whole + 1)
     × (length counts ≡ length counts₀)
     × (take (h + h) counts ≡ take (h + h) counts₀)
     × (rest.left + rest.taken ≡ rest₀.left + rest₀.taken)
-    × (reply (tries some (next (plan_of (claim_of words)) regions h counts₀) (last + 1 - k) k) rest ≡ reply (tries some (next (plan_of (claim_of words)) regions h counts₀) (last + 1 - k₀) k₀) rest₀)
+    × (reply (tries some (next (plan_of (claim_of words)) regions h counts₀) (whole + 1 - k) k) rest ≡ reply (tries some (next (plan_of (claim_of words)) regions h counts₀) (whole + 1 - k₀) k₀) rest₀)
     × (length values ≡ length values₀)
     × Kept order next' values₀ values
 
 abbrev splits-μ-loop : splits-lts.decreases-loop
-splits-μ-loop counts₀ values₀ words patterns order turns upto rows root size regions plain known h inside next' turn some stay last rest₀ k₀ counts values rest k = last + 1 - k
+splits-μ-loop counts₀ values₀ words patterns order kinds upto rows root size regions known h next' some whole rest₀ k₀ counts values rest k = whole + 1 - k
 
 -- the function's parameters as the laws name them, and what is required of them
 module _ (t : ℕ) (s : splits-lts.Start (told t) (splits-at t) splits.Post splits-Inv-loop splits-μ-loop) where
@@ -107,20 +78,14 @@ module _ (t : ℕ) (s : splits-lts.Start (told t) (splits-at t) splits.Post spli
   abbrev prepared : Prepared ws s.args.patterns.now s.args.order.now (length s.args.values.now) s.args.size s.args.rows
   prepared = s.pre.1.0
 
-  abbrev guided : Guided claim s.args.turns.now s.args.upto.now s.args.patterns.now s.args.order.now (length l) s.args.rows s.args.plain R
+  abbrev guided : Guided claim s.args.kinds.now s.args.upto.now s.args.patterns.now s.args.order.now (length l) s.args.rows R
   guided = s.pre.1.1.1.0
 
-  abbrev level : Level
-  level = level_at claim.quantifiers 1 h
-
-  abbrev placed : (0 < h) × (h < R) × Total l h s.args.size × Inside level (take (h + h) l) s.args.inside
+  abbrev placed : (0 < h) × (h < R) × Total l h s.args.size
   placed = s.pre.1.1.1.1.0
 
   room : h + h ≤ length l
   room = omega (arith, placed.1, guided.roomy)
-
-  count : get_or (take (h + h) l) h 0 ≡ get_or l h 0
-  count = let below : h < h + h = omega (arith, placed.0) in get_or-take (h + h) l h 0 below
 
   few : h < 2 ^ max_sets
   few = omega (arith, placed.1, guided.few)
@@ -128,54 +93,43 @@ module _ (t : ℕ) (s : splits-lts.Start (told t) (splits-at t) splits.Post spli
 -- in the loop: the run of all tries is the rule at h
 module _ (t : ℕ) (i : splits-lts.At-loop (told t) (splits-at t) splits.Post splits-Inv-loop splits-μ-loop) where
   abbrev s : splits-lts.Start (told t) (splits-at t) splits.Post splits-Inv-loop splits-μ-loop
-  s = i.before.before.before.before.before.before.before.before.before.before.before.before.before.before.before
+  s = i.before.before.before.before.before.before.before.before.before.before.before.before
 
   abbrev a : splits-lts.After-advance (told t) (splits-at t) splits.Post splits-Inv-loop splits-μ-loop
-  a = i.before.before.before.before.before.before.before
-
-  abbrev x : splits-lts.After-is-exists (told t) (splits-at t) splits.Post splits-Inv-loop splits-μ-loop
-  x = i.before.before.before.before
-
-  abbrev g : splits-lts.After-span-at (told t) (splits-at t) splits.Post splits-Inv-loop splits-μ-loop
-  g = i.before.before
+  a = i.before.before.before.before
 
   abbrev f : ℕ → Ruling
   f = next (plan_of (claim t s)) (R t s) (h t s) (l t s)
 
   abbrev some : Bool
-  some = x.is-exists.result
+  some = exists_at s.args.kinds.now (h t s)
 
-  abbrev end : ℕ
-  end = g.span-at.result.last + 1
+  abbrev whole : ℕ
+  whole = get_or (l t s) (h t s) 0
 
-  span : (g.span-at.result.from ≡ (plan_of (claim t s)).from (h t s) (take (h t s + h t s) (l t s))) × (end ≡ (plan_of (claim t s)).end (h t s) (take (h t s + h t s) (l t s)))
-  span = g.span-at.ensures.0 (level t s) (h t s) (take (h t s + h t s) (l t s)) ((guided t s).turning.coded (h t s) (placed t s).0 (placed t s).1) (count t s) (placed t s).3
+  small : whole ≤ max_size
+  small = omega (arith, total_at (l t s) (h t s) s.args.size (placed t s).0 (room t s) (placed t s).2, (prepared t s).small)
 
-  small : end ≤ max_size + 1
-  small = omega (arith, g.span-at.ensures.1.1, total_at (l t s) (h t s) s.args.size (placed t s).0 (room t s) (placed t s).2, (prepared t s).small)
-
-  all-tries : reply (tries some f (end - i.loop.k) i.loop.k) i.loop.rest ≡ reply (rule (plan_of (claim t s)) (R t s - h t s) (h t s) (take (h t s + h t s) (l t s))) s.args.a
+  all-tries : reply (tries some f (whole + 1 - i.loop.k) i.loop.k) i.loop.rest ≡ reply (rule (plan_of (claim t s)) (R t s - h t s) (h t s) (take (h t s + h t s) (l t s))) s.args.a
   all-tries =
       i.loop.inv.4
-      ∙ ap (λ r. reply r s.args.a)
-      (run (claim t s) (R t s) (h t s) (l t s) (placed t s).1 some g.span-at.result.from end
-      (x.is-exists.ensures (level t s).some (level t s).one (last_at (level t s) (h t s)) ((guided t s).turning.coded (h t s) (placed t s).0 (placed t s).1)) span.0 span.1)
+      ∙ ap (λ r. reply r s.args.a) (run (claim t s) (R t s) (h t s) (l t s) (placed t s).0 (placed t s).1 some ((guided t s).quantified (h t s) (placed t s).0 (placed t s).1))
 
 -- after the children are written
 module _ (t : ℕ) (p : splits-lts.After-children (told t) (splits-at t) splits.Post splits-Inv-loop splits-μ-loop) where
   abbrev i : splits-lts.At-loop (told t) (splits-at t) splits.Post splits-Inv-loop splits-μ-loop
   i = p.before.before.before
 
-  within : i.loop.k + 1 ≤ end t i
-  within = omega (arith, p.before.before.loop-test.taken)
+  within : i.loop.k ≤ whole t i
+  within = p.before.before.loop-test.taken
 
   given : take (h t (s t i) + 1 + (h t (s t i) + 1)) p.children.last.0 ≡ split (take (h t (s t i) + h t (s t i)) (l t (s t i))) (h t (s t i)) i.loop.k
   given = given_is (h t (s t i)) (l t (s t i)) i.loop.counts p.children.last.0 i.loop.k i.loop.inv.2 p.children.ensures
 
--- after the splits with one try are passed over
+-- after the regions without ports are passed over
 module _ (t : ℕ) (q : splits-lts.After-pass (told t) (splits-at t) splits.Post splits-Inv-loop splits-μ-loop) where
   abbrev p : splits-lts.After-children (told t) (splits-at t) splits.Post splits-Inv-loop splits-μ-loop
-  p = q.before.before.before.before.before
+  p = q.before.before.before.before
 
   abbrev e : splits-lts.At-loop (told t) (splits-at t) splits.Post splits-Inv-loop splits-μ-loop
   e = i t p
@@ -184,21 +138,13 @@ module _ (t : ℕ) (q : splits-lts.After-pass (told t) (splits-at t) splits.Post
   b = s t e
 
   abbrev below : ℕ
-  below = q.pass.result.split
+  below = q.pass.result
 
   abbrev m : List ℕ
   m = q.pass.last.0
 
-  -- whether one is inside already, where the next split is over single ports
-  inside : Inside (level_at (claim t b).quantifiers 1 (h t b + 1)) (take (h t b + 1 + (h t b + 1)) p.children.last.0) q.before.inside_next.result
-  inside =
-      let told = e.before.stays.ensures (level t b).some (level t b).one (last_at (level t b) (h t b)) ((guided t b).turning.coded (h t b) (placed t b).0 (placed t b).1) in
-      subst (Inside (level_at (claim t b).quantifiers 1 (h t b + 1)) (take (h t b + 1 + (h t b + 1)) p.children.last.0))
-      (sym (q.before.inside_next.ensures ∙ ap (λ b. b && ((s t e).args.inside || ltb 0 e.loop.k)) told))
-      (inside_given (claim t b) (h t b) (l t b) p.children.last.0 b.args.inside e.loop.k (placed t b).0 (room t b) (omega (arith, within t p, (span t e).1)) (given t p) (placed t b).3)
-
-  passed : Passed (claim t b) (R t b) (h t b + 1) p.children.last.0 below q.pass.result.inside m
-  passed = q.pass.ensures (claim t b) (guided t b).turning inside
+  passed : Passed (R t b) (h t b + 1) p.children.last.0 below m
+  passed = q.pass.ensures
 
   long : length m ≡ length (l t b)
   long = q.pass.kept.0 ∙ p.children.kept.0 ∙ e.loop.inv.1
@@ -207,10 +153,10 @@ module _ (t : ℕ) (q : splits-lts.After-pass (told t) (splits-at t) splits.Post
   total =
       passed.total b.args.size
       (total_more (h t b) (l t b) e.loop.counts p.children.last.0 e.loop.k e.loop.inv.2 p.children.ensures b.args.size (placed t b).0 (room t b)
-      (omega (arith, within t p, (g t e).span-at.ensures.1.1)) (placed t b).2)
+      (within t p) (placed t b).2)
 
   goes_on : f t e e.loop.k ≡ rule (plan_of (claim t b)) (R t b - below) below (take (below + below) m)
-  goes_on = sym (ap (rule (plan_of (claim t b)) (R t b - (h t b + 1)) (h t b + 1)) (given t p)) ∙ passed.ruled
+  goes_on = sym (ap (rule (plan_of (claim t b)) (R t b - (h t b + 1)) (h t b + 1)) (given t p)) ∙ passed.ruled (claim t b)
 
   stand : take (h t b + h t b) m ≡ take (h t b + h t b) (l t b)
   stand = still (h t b) (l t b) e.loop.counts p.children.last.0 e.loop.k e.loop.inv.2 p.children.ensures (room t b) m passed.stands
@@ -221,7 +167,7 @@ module _ (t : ℕ) (q : splits-lts.After-pass (told t) (splits-at t) splits.Post
       let made = (a t e).advance in
       let values = made.last.1.1.1.1.1.1.0 in (
         omega (arith, made.ensures.0, b.pre.1.1.1.1.1.0.0, ((guided t b).scheduled (h t b + h t b - R t b) (omega (arith, (placed t b).1))).0),
-        known_passed (claim t b) b.args.size b.args.order.now made.result (R t b) (h t b + 1) below q.pass.result.inside p.children.last.0 m e.loop.values passed
+        known_passed (claim t b) b.args.size b.args.order.now made.result (R t b) (h t b + 1) below p.children.last.0 m e.loop.values passed
             (known_kept (claim t b) b.args.size b.args.order.now made.result (finals (R t b) (h t b + 1) p.children.last.0) values e.loop.values e.loop.inv.6
             (known_split (claim t b) b.args.size b.args.order.now made.result (R t b) (h t b) e.loop.k (l t b) p.children.last.0 values (given t p) made.ensures.1.0)),
       )
@@ -232,7 +178,7 @@ module _ (t : ℕ) (q : splits-lts.After-pass (told t) (splits-at t) splits.Post
 -- What either way to the reply gives: it is that to try k, and what stood before stands.
 module _ (t : ℕ) (j : splits-lts.Joined1 (told t) (splits-at t) splits.Post splits-Inv-loop splits-μ-loop) where
   abbrev q : splits-lts.After-pass (told t) (splits-at t) splits.Post splits-Inv-loop splits-μ-loop
-  q = j.before.before.before.before
+  q = j.before.before.before
 
   abbrev values : List ℤ
   values = (a t (e t q)).advance.last.1.1.1.1.1.1.0
@@ -268,7 +214,7 @@ module _ (t : ℕ) (j : splits-lts.Joined1 (told t) (splits-at t) splits.Post sp
   back : Kept (b t q).args.order.now (b t q).args.known (b t q).args.values.now j.if1.values
   back k n = values-stand k (omega (arith, n, (a t (e t q)).advance.ensures.0)) ∙ (a t (e t q)).advance.ensures.1.1 k n
 
-  turn : (e t q).loop.k < end t (e t q)
+  turn : (e t q).loop.k < whole t (e t q) + 1
   turn = omega (arith, within t (p t q))
 
 splits-advance-requires : (t : ℕ) → splits-lts.Need-advance-requires (told t) (splits-at t) splits.Post splits-Inv-loop splits-μ-loop
@@ -276,60 +222,42 @@ splits-advance-requires t c κs =
     let s = c.before.before.before.before.before.before.before in
     let due = (guided t s).scheduled (h t s + h t s - R t s) (omega (arith, (placed t s).1)) in (
       prepared_less due.0 (prepared t s),
-      (((placed t s).1, room t s, (guided t s).long), (((guided t s).final, (placed t s).2), (due.1, s.requires.1.1.1.1.1.0.1))),
+      (((placed t s).1, room t s, (guided t s).long.1), (((guided t s).final, (placed t s).2), (due.1, s.requires.1.1.1.1.1.0.1))),
     )
 
-splits-shared-slice-read-turn : (t : ℕ) → splits-lts.Need-shared-slice-read-turn (told t) (splits-at t) splits.Post splits-Inv-loop splits-μ-loop
-splits-shared-slice-read-turn t c = let s = c.before.before.before.before.before.before.before.before.before.before in omega (arith, (placed t s).1, (guided t s).turning.long)
+splits-shared-slice-read-some : (t : ℕ) → splits-lts.Need-shared-slice-read-some (told t) (splits-at t) splits.Post splits-Inv-loop splits-μ-loop
+splits-shared-slice-read-some t c = let s = c.before.before.before.before.before.before.before.before.before.before in omega (arith, (placed t s).1, (guided t s).long.0)
 
-splits-is-exists-requires : (t : ℕ) → splits-lts.Need-is-exists-requires (told t) (splits-at t) splits.Post splits-Inv-loop splits-μ-loop
-splits-is-exists-requires t c κs = search rules
+splits-mul-whole : (t : ℕ) → splits-lts.Need-overflow-mul-whole (told t) (splits-at t) splits.Post splits-Inv-loop splits-μ-loop
+splits-mul-whole t c = let small = few t c.before.before.before.before.before.before.before.before.before.before in record { fits = omega arith }
 
-splits-mul-span-at : (t : ℕ) → splits-lts.Need-overflow-mul-span-at (told t) (splits-at t) splits.Post splits-Inv-loop splits-μ-loop
-splits-mul-span-at t c = let small = few t c.before.before.before.before.before.before.before.before.before.before.before in record { fits = omega arith }
-
-splits-slice-read-span-at : (t : ℕ) → splits-lts.Need-slice-read-span-at (told t) (splits-at t) splits.Post splits-Inv-loop splits-μ-loop
-splits-slice-read-span-at t c = let s = c.before.before.before.before.before.before.before.before.before.before.before.before in omega (arith, (placed t s).0, room t s)
-
-splits-span-at-requires : (t : ℕ) → splits-lts.Need-span-at-requires (told t) (splits-at t) splits.Post splits-Inv-loop splits-μ-loop
-splits-span-at-requires t c κs = search rules
-
-splits-stays-requires : (t : ℕ) → splits-lts.Need-stays-requires (told t) (splits-at t) splits.Post splits-Inv-loop splits-μ-loop
-splits-stays-requires t c κs = search rules
+splits-slice-read-whole : (t : ℕ) → splits-lts.Need-slice-read-whole (told t) (splits-at t) splits.Post splits-Inv-loop splits-μ-loop
+splits-slice-read-whole t c = let s = c.before.before.before.before.before.before.before.before.before.before.before in omega (arith, (placed t s).0, room t s)
 
 splits-loop-holds : (t : ℕ) → splits-lts.Need-loop-init (told t) (splits-at t) splits.Post splits-Inv-loop splits-μ-loop
-splits-loop-holds t c = (omega (arith, c.before.span-at.ensures.1.0), refl, refl, refl, refl, refl, λ k n. refl)
+splits-loop-holds t c = search rules
 
 splits-children-requires : (t : ℕ) → splits-lts.Need-children-requires (told t) (splits-at t) splits.Post splits-Inv-loop splits-μ-loop
 splits-children-requires t c κs =
     let i = c.before.before in
     let s = s t i in
-    let at = same_at (l t s) i.loop.counts (h t s) (placed t s).0 i.loop.invariant.2 in (
+    let at : get_or i.loop.counts (h t s) 0 ≡ whole t i = same_at (l t s) i.loop.counts (h t s) (placed t s).0 i.loop.invariant.2 in (
       ((placed t s).0, omega (arith, (placed t s).1, (guided t s).roomy, i.loop.invariant.1)),
-      omega (arith, at, c.before.loop-test.true, (g t i).span-at.ensures.1.1),
+      omega (arith, at, c.before.loop-test.true),
     )
 
 splits-add-pass : (t : ℕ) → splits-lts.Need-overflow-add-pass (told t) (splits-at t) splits.Post splits-Inv-loop splits-μ-loop
 splits-add-pass t c = let small = few t (s t c.before.before.before.before.before.before) in record { fits = omega arith }
 
-splits-inside-next-requires : (t : ℕ) → splits-lts.Need-inside-next-requires (told t) (splits-at t) splits.Post splits-Inv-loop splits-μ-loop
-splits-inside-next-requires t c κs = search rules
-
 splits-pass-requires : (t : ℕ) → splits-lts.Need-pass-requires (told t) (splits-at t) splits.Post splits-Inv-loop splits-μ-loop
 splits-pass-requires t c κs =
-    let p = c.before.before.before.before in
-    let i = i t p in
-    let s = s t i in (
-      omega arith,
-      omega (arith, (placed t s).1),
-      omega (arith, (guided t s).roomy, i.loop.inv.1, p.children.auto.0),
-      (guided t s).turning.long,
-      (guided t s).turning.few,
-    )
+    let i = c.before.before.before.before.before.before in
+    let s = s t i in
+    (omega arith, omega (arith, (placed t s).1), omega (arith, (guided t s).roomy, i.loop.invariant.1, c.before.before.before.children.auto.0))
 
 splits-step-requires : (t : ℕ) → splits-lts.Need-step-requires (told t) (splits-at t) splits.Post splits-Inv-loop splits-μ-loop
 splits-step-requires t c κs =
-    let q = c.before.before.before.before.before.before in
+    let q = c.before.before.before.before.before in
     let b = b t q in
     let same = c.before.before.if1.true in
     let final = ap (λ n. finals (R t b) n (m t q)) same in
@@ -355,7 +283,7 @@ splits-step-requires t c κs =
 
 splits-splits-requires : (t : ℕ) → splits-lts.Need-splits-requires (told t) (splits-at t) splits.Post splits-Inv-loop splits-μ-loop
 splits-splits-requires t c κs =
-    let q = c.before.before.before.before.before.before in
+    let q = c.before.before.before.before.before in
     let b = b t q in
     let more : below t q < R t b = omega (arith, (passed t q).upto, c.before.before.if1.false) in (
       omega (arith, b.pre.0, (passed t q).from),
@@ -365,7 +293,7 @@ splits-splits-requires t c κs =
           b.pre.1.1.0,
           (
             guided_kept (long t q) (guided t b),
-            ((omega (arith, (passed t q).from), more, total t q, (passed t q).inside), (known t q, omega (arith, paid t q, b.pre.1.1.1.1.1.1))),
+            ((omega (arith, (passed t q).from), more, total t q), (known t q, omega (arith, paid t q, b.pre.1.1.1.1.1.1))),
           ),
         ),
       ),
@@ -385,7 +313,7 @@ splits-returns t c =
     let d = c.before in
     let j = d.before in
     let e = e t (q t j) in (
-      stopped (some t e) (f t e) (end t e) e.loop.k e.loop.rest j.if1.x (made t j) (turn t j) (sym d.ends.ensures ∙ c.if2.true) ∙ all-tries t e,
+      stopped (some t e) (f t e) (whole t e + 1) e.loop.k e.loop.rest j.if1.x (made t j) (turn t j) (sym d.ends.ensures ∙ c.if2.true) ∙ all-tries t e,
       (stands t j, (back t j, (counts-long t j, values_long t j ∙ (a t e).advance.kept.1.1.1.1.1.1.0))),
     )
 
@@ -405,8 +333,8 @@ splits-loop-again t c =
       omega (arith, turn t j),
       counts-long t j,
       stands t j,
-      on_kept (some t e) (f t e) (end t e) e.loop.k e.loop.rest j.if1.x (made t j) (turn t j) ∙ e.loop.inv.3,
-      went_on (some t e) (f t e) (end t e) e.loop.k e.loop.rest j.if1.x (made t j) (turn t j) (sym d.ends.ensures ∙ c.before.if2.false) ∙ e.loop.inv.4,
+      on_kept (some t e) (f t e) (whole t e + 1) e.loop.k e.loop.rest j.if1.x (made t j) (turn t j) ∙ e.loop.inv.3,
+      went_on (some t e) (f t e) (whole t e + 1) e.loop.k e.loop.rest j.if1.x (made t j) (turn t j) (sym d.ends.ensures ∙ c.before.if2.false) ∙ e.loop.inv.4,
       values_long t j,
       values-stand t j,
     )
@@ -421,9 +349,9 @@ splits-returns-2 : (t : ℕ) → splits-lts.Need-returns-2 (told t) (splits-at t
 splits-returns-2 t c =
     let i = c.before in
     let s = s t i in
-    let past : i.loop.k ≡ end t i = omega (arith, c.loop-test.false, i.loop.invariant.0) in (
-      sym (tries_none (some t i) (f t i) (end t i) i.loop.rest)
-          ∙ ap (λ k. reply (tries (some t i) (f t i) (end t i - k) k) i.loop.rest) (sym past)
+    let past : i.loop.k ≡ whole t i + 1 = omega (arith, c.loop-test.false, i.loop.invariant.0) in (
+      sym (tries_none (some t i) (f t i) (whole t i + 1) i.loop.rest)
+          ∙ ap (λ k. reply (tries (some t i) (f t i) (whole t i + 1 - k) k) i.loop.rest) (sym past)
           ∙ all-tries t i,
       (
         i.loop.invariant.2,
@@ -441,16 +369,12 @@ pub +splits-spec : {M : Type 1} → statement M
     splits-Inv-loop
     splits-μ-loop
     (splits-advance-requires t)
-    (splits-shared-slice-read-turn t)
-    (splits-is-exists-requires t)
-    (splits-mul-span-at t)
-    (splits-slice-read-span-at t)
-    (splits-span-at-requires t)
-    (splits-stays-requires t)
+    (splits-shared-slice-read-some t)
+    (splits-mul-whole t)
+    (splits-slice-read-whole t)
     (splits-loop-holds t)
     (splits-children-requires t)
     (splits-add-pass t)
-    (splits-inside-next-requires t)
     (splits-pass-requires t)
     (splits-step-requires t)
     (splits-splits-requires t)

@@ -1,4 +1,4 @@
--- `decider::search::search` meets its contract: the rule at h is the rule at the first split from there that has not one try. Assumes nothing.
+-- `decider::search::search` meets its contract: the rule at h is the rule at the first region from there that has ports. Assumes nothing.
 use mathlib.Core.Path.{◌≡◌, sym, ap, subst, ◌∙◌}
 use mathlib.Core.List.{List}
 use Prim.Native.Nat.{ℕ, ◌+◌, ◌-◌, ◌^◌, ◌≤◌, ◌<◌, zero-le}
@@ -24,9 +24,9 @@ use Rattle.decider.proofs.search.search.Statement.{statement}
 use Rattle.decider.proofs.search.search.Tie as tie
 
 pass-requires : tie.Need-pass-requires
-pass-requires c κs = let s = c.before.before.before.before.before.before in (s.requires.1.0.place.0, s.requires.1.0.place.1, s.requires.1.0.roomy.1, s.requires.0.turning.long, s.requires.0.turning.few)
+pass-requires c κs = let s = c.before.before.before.before.before.before in (s.requires.1.0.place.0, s.requires.1.0.place.1, s.requires.1.0.roomy.1)
 
--- once the splits with one try are passed over
+-- once the regions without ports are passed over
 module _ (y : tie.After-pass) where
   abbrev start : tie.Start
   start = y.before.before.before.before.before.before.before
@@ -38,23 +38,23 @@ module _ (y : tie.After-pass) where
   R = start.args.arrangement.regions
 
   abbrev h : ℕ
-  h = y.pass.result.split
+  h = y.pass.result
 
   abbrev m : List ℕ
   m = y.pass.last.0
 
-  abbrev arranged : Arranged claim start.args.patterns.now start.args.order.now start.args.upto.now start.args.turns.now start.args.arrangement.rows start.args.arrangement.plain R
+  abbrev arranged : Arranged claim start.args.patterns.now start.args.order.now start.args.upto.now start.args.kinds.now start.args.arrangement.rows R
   arranged = start.pre.0
 
-  abbrev passed : Passed claim R start.args.h start.args.counts.now h y.pass.result.inside m
-  passed = y.pass.ensures claim arranged.turning start.pre.1.0.inside
+  abbrev passed : Passed R start.args.h start.args.counts.now h m
+  passed = y.pass.ensures
 
   total : Total m h start.args.size
   total = passed.total start.args.size start.pre.1.0.total
 
   goes_on : rule (plan_of claim) (R - start.args.h) start.args.h (take (start.args.h + start.args.h) start.args.counts.now)
       ≡ rule (plan_of claim) (R - h) h (take (h + h) m)
-  goes_on = passed.ruled
+  goes_on = passed.ruled claim
 
   room : R + R ≤ length m
   room = omega (arith, start.pre.1.0.roomy.1, y.pass.kept.0)
@@ -78,13 +78,13 @@ module _ (y : tie.After-pass) where
       let short : sets claim.quantifiers ≤ max_sets = omega (arith, known.few_sets, known.sets) in
       omega (arith, pow_mono short, arranged.final)
 
-  guided : Guided claim start.args.turns.now start.args.upto.now start.args.patterns.now start.args.order.now (length m) start.args.arrangement.rows start.args.arrangement.plain R
+  guided : Guided claim start.args.kinds.now start.args.upto.now start.args.patterns.now start.args.order.now (length m) start.args.arrangement.rows R
   guided =
-      record { final = arranged.final; few = few; roomy = room; long = arranged.long; turning = arranged.turning; scheduled = arranged.scheduled }
+      record { final = arranged.final; few = few; roomy = room; long = arranged.long; quantified = arranged.quantified; scheduled = arranged.scheduled }
 
 step-requires : tie.Need-step-requires
 step-requires c κs =
-    let y = c.before.before.before.before.before.before in
+    let y = c.before.before.before.before.before in
     let s = start y in
     let same = c.before.before.if1.true in
     let final = ap (λ n. finals (R y) n (m y)) same in
@@ -100,20 +100,20 @@ step-requires c κs =
     )
 
 same_length : tie.Need-same-length
-same_length c = c.before.before.before.before.before.before.before.before.pass.auto.0
+same_length c = c.before.before.before.before.before.before.before.pass.auto.0
 
 same-length-2 : tie.Need-same-length-2
 same-length-2 c = search rules
 
 returns : tie.Need-returns
 returns c =
-    let y = c.before.before.before.before.before.before.before.before in
+    let y = c.before.before.before.before.before.before.before in
     c.before.step.ensures.0
     ∙ ap (λ r. reply r (start y).args.a) (sym (goes_on y ∙ leaf (plan_of (claim y)) (R y) (h y) (m y) c.before.before.before.before.if1.true))
 
 splits-requires : tie.Need-splits-requires
 splits-requires c κs =
-    let y = c.before.before.before.before.before.before in
+    let y = c.before.before.before.before.before in
     let s = start y in
     let more : h y < R y = omega (arith, (passed y).upto, c.before.before.if1.false) in (
       prepared y,
@@ -122,7 +122,7 @@ splits-requires c κs =
         (
           guided y,
           (
-            (omega (arith, s.pre.1.0.place.0, (passed y).from), more, total y, (passed y).inside),
+            (omega (arith, s.pre.1.0.place.0, (passed y).from), more, total y),
             ((zero-le, known_none (claim y) s.args.size s.args.order.now 0 _ _), s.pre.1.1),
           ),
         ),
@@ -130,14 +130,14 @@ splits-requires c κs =
     )
 
 same-length-3 : tie.Need-same-length-3
-same-length-3 c = c.before.before.before.splits.auto.0 ∙ c.before.before.before.before.before.before.before.before.before.before.pass.auto.0
+same-length-3 c = c.before.before.before.splits.auto.0 ∙ c.before.before.before.before.before.before.before.before.before.pass.auto.0
 
 same-length-4 : tie.Need-same-length-4
 same-length-4 c = search rules
 
 returns-2 : tie.Need-returns-2
 returns-2 c =
-    let y = c.before.before.before.before.before.before.before.before.before.before in
+    let y = c.before.before.before.before.before.before.before.before.before in
     c.before.before.before.splits.ensures.0 ∙ ap (λ r. reply r (start y).args.a) (sym (goes_on y))
 
 pub search-spec : {M : Type 1} → statement M

@@ -7,7 +7,7 @@ use Rattle.checker.specs.Words.{word_at, claim_of}
 use Rattle.emission.specs.Emission.{Place}
 use Rattle.emission.specs.Plan.{place_in, frame_at}
 use Rattle.emission.specs.Runs.{emitted_to, without}
-use Rattle.emission.proofs.Lengths.{amount_length, both-length}
+use Rattle.emission.proofs.Lengths.{empty_length, both-length}
 use Rattle.emission.proofs.Frames.{says_all}
 use Rattle.emission.proofs.Ready.{known, few}
 use Rattle.emission.proofs.Sets.{spared_none, spared_then, spared_next, without_spared}
@@ -156,7 +156,7 @@ returns-3 c =
     let two = rw (a, b, without_spared _ _ spared (apart children.1.before) (apart children.0.before)) at (c.before.before.within-length2.ensures.0.0 p at) in
     let run = ap length (run_equal ready patterned says _ refl kind) in (
       (
-        omega (arith, one, two, run, amount_length 0 p rs at, amount_length 0 p ss at, both-length p rs ss at),
+        omega (arith, one, two, run, empty_length p rs at, empty_length p ss at, both-length p rs ss at),
         omega (arith, c.before.before.before.before.before.before.within-length.ensures.0.1, c.before.before.within-length2.ensures.0.1),
       ),
       spared_next ready patterned (spared_then spared c.before.before.within-length2.ensures.1) (omega (arith, kind)),

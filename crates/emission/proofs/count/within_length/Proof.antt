@@ -2,7 +2,7 @@ use mathlib.Core.Path.{ap, ◌∙◌}
 use native.Mathlib.Omega.{arith}
 use lib.ListN.{length}
 use Rattle.emission.specs.Runs.{without}
-use Rattle.emission.proofs.Lengths.{card-length, amount_length}
+use Rattle.emission.proofs.Lengths.{card-length, empty_length}
 use Rattle.emission.proofs.Sets.{spared_put, difference_regions}
 use borrow.Author.Rules.{rules}
 use Rattle.emission.proofs.count.within_length.Statement.{statement}
@@ -30,7 +30,7 @@ returns c =
     let card = c.card-length.ensures in
     let rs = without a.patterns.now a.a a.b in
     let n = c.before.size.ensures.0 ∙ ap length (difference_regions a.a a.b put) in
-    ((λ p at. omega (arith, card.0 p at rs n, card-length p rs at, amount_length 0 p rs at), omega (arith, card.1)), spared_put put)
+    ((λ p at. omega (arith, card.0 p at rs n, card-length p rs at, empty_length p rs at), omega (arith, card.1)), spared_put put)
 
 pub within-length-spec : {M : Type 1} → statement M
 within-length-spec =

@@ -1,7 +1,7 @@
 use mathlib.Core.Path.{sym, ◌∙◌}
 use native.Mathlib.Omega.{arith}
 use Rattle.emission.proofs.Ready.{known, few}
-use Rattle.emission.proofs.Sets.{sets_room, some_sets, variable_child, level_at_lem, union_children, inter_children, compl_child, last_set, set_variable, set_empty, set_whole, set_union, set_inter, set_compl}
+use Rattle.emission.proofs.Sets.{sets_room, some_sets, variable_child, level_at, union_children, inter_children, compl_child, last_set, set_variable, set_empty, set_whole, set_union, set_inter, set_compl}
 use borrow.Author.Rules.{rules}
 use Rattle.emission.proofs.pattern.put_pattern.Statement.{statement}
 use Rattle.emission.proofs.pattern.put_pattern.Tie as tie
@@ -47,7 +47,7 @@ sub-put-variable-2 : tie.Need-overflow-sub-put-variable-2
 sub-put-variable-2 c =
     let ready = c.before.before.before.before.before.before.before.before.before.requires.0 in
     let patterned = c.before.before.before.before.before.before.before.before.before.requires.1 in
-    omega (arith, (known ready).sets, level_at_lem ready patterned (sym c.before.before.before.before.before.before.word.ensures ∙ c.before.before.before.match.keys1) c.before.before.before.before.before.word2.ensures c.before.before.frame_at.ensures)
+    omega (arith, (known ready).sets, level_at ready patterned (sym c.before.before.before.before.before.before.word.ensures ∙ c.before.before.before.match.keys1) c.before.before.before.before.before.word2.ensures c.before.before.frame_at.ensures)
 
 put-variable-requires : tie.Need-put-variable-requires
 put-variable-requires c κs =
@@ -105,7 +105,7 @@ returns c =
     let ready = c.before.before.before.before.before.before.before.before.before.before.before.before.requires.0 in
     let patterned = c.before.before.before.before.before.before.before.before.before.before.before.before.requires.1 in
     let kind = sym c.before.before.before.before.before.before.before.before.before.word.ensures ∙ c.before.before.before.before.before.before.match.keys1 in
-    let level = level_at_lem ready patterned kind c.before.before.before.before.before.before.before.before.word2.ensures c.before.before.before.before.before.frame_at.ensures in
+    let level = level_at ready patterned kind c.before.before.before.before.before.before.before.before.word2.ensures c.before.before.before.before.before.frame_at.ensures in
     set_variable ready patterned _ kind (omega (arith, (known ready).sets, level)) c.before.before.put-variable.ensures
 
 same-length-2 : tie.Need-same-length-2

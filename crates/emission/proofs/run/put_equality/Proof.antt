@@ -4,10 +4,10 @@ use Prim.Native.Nat.{ℕ, ◌+◌, ◌-◌, ◌<◌}
 use native.Mathlib.Omega.{arith}
 use lib.ListN.{length}
 use Rattle.checker.specs.Claim.{conj}
-use Rattle.emission.specs.Emission.{Place, amount_run}
+use Rattle.emission.specs.Emission.{Place, empty_run}
 use Rattle.emission.specs.Plan.{place_in}
 use Rattle.emission.specs.Runs.{without}
-use Rattle.emission.proofs.Lengths.{amount_length, both-length}
+use Rattle.emission.proofs.Lengths.{empty_length, both-length}
 use Rattle.emission.proofs.Parts.{both_parts}
 use Rattle.emission.proofs.Sets.{spared_then, without_spared}
 use Rattle.emission.proofs.Writing.{as_node, nodes_after, nodes_then, room_part, room_after}
@@ -26,7 +26,7 @@ put-within-requires c κs =
     let ss : List ℕ = without a.patterns.now a.b a.a in
     let p : Place = place_in a.frame in (
       (start.requires.0.0, omega (arith, start.requires.0), omega (arith, start.requires.0), start.requires.0.3),
-      room_part _ (omega (arith, amount_length 0 p rs a.at, both-length p rs ss a.at)) start.requires.1,
+      room_part _ (omega (arith, empty_length p rs a.at, both-length p rs ss a.at)) start.requires.1,
     )
 
 put-within-requires-2 : tie.Need-put-within-requires-2
@@ -40,13 +40,13 @@ put-within-requires-2 c κs =
     let spared = put.ensures.1 in (
       (omega (arith, spared.long, start.requires.0.0), omega (arith, spared.long, start.requires.0), omega (arith, spared.long, start.requires.0), start.requires.0.3),
       rw (without_spared a.b a.a spared (apart start.requires.0.2) (apart start.requires.0.1))
-          (room_after _ (omega (arith, amount_length 0 p rs a.at, amount_length 0 p ss put.result, both-length p rs ss a.at)) start.requires.1 put.ensures.0),
+          (room_after _ (omega (arith, empty_length p rs a.at, empty_length p ss put.result, both-length p rs ss a.at)) start.requires.1 put.ensures.0),
     )
 
 sub-put-node : tie.Need-overflow-sub-put-node
 sub-put-node c =
     let a = c.before.before.before.before.before.before.before.before.before.before.before.before.before.before.args in
-    omega (arith, nodes_after c.before.before.before.before.before.before.before.before.before.before.put-within.ensures.0, amount_length 0 (place_in a.frame) (without a.patterns.now a.a a.b) a.at)
+    omega (arith, nodes_after c.before.before.before.before.before.before.before.before.before.before.put-within.ensures.0, empty_length (place_in a.frame) (without a.patterns.now a.a a.b) a.at)
 
 sub-put-node-2 : tie.Need-overflow-sub-put-node-2
 sub-put-node-2 c =
@@ -55,7 +55,7 @@ sub-put-node-2 c =
       arith,
       nodes_after c.before.before.before.before.put-within2.ensures.0,
       nodes_after c.before.before.before.before.before.before.before.before.before.before.put-within.ensures.0,
-      amount_length 0 (place_in a.frame) (without a.patterns.now a.a a.b) a.at,
+      empty_length (place_in a.frame) (without a.patterns.now a.a a.b) a.at,
     )
 
 put-node-requires : tie.Need-put-node-requires
@@ -69,7 +69,7 @@ put-node-requires c κs =
     let two = c.before.before.before.before.put-within2.ensures.0 in
     let both = rw (without_spared a.b a.a one.ensures.1 (apart start.requires.0.2) (apart start.requires.0.1)) at two in
     let room =
-    room_after (length (amount_run 0 p one.result ss) + 1) (omega (arith, amount_length 0 p rs a.at, amount_length 0 p ss one.result, both-length p rs ss a.at))
+    room_after (length (empty_run p one.result ss) + 1) (omega (arith, empty_length p rs a.at, empty_length p ss one.result, both-length p rs ss a.at))
     start.requires.1 one.ensures.0 in
     let last = room_after 1 (omega arith) room both in
     (last, search rules, omega (arith, last.numbers, nodes_after both), omega (arith, last.numbers))

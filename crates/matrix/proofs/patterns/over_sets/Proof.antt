@@ -2,7 +2,7 @@ use mathlib.Core.Path.{◌≡◌, sym, ap, ◌∙◌}
 use Prim.Native.Nat.{◌+◌, ◌*◌, ◌<◌}
 use native.Mathlib.Omega.{arith}
 use borrow.Author.Rules.{rules}
-use lib.IntN.{pos}
+use lib.Dec.{eqb}
 use lib.ListN.{get_or}
 use Rattle.checker.specs.Claim.{intQ}
 use mathlib.Core.Bool.{true}
@@ -10,16 +10,15 @@ use Rattle.checker.specs.Kinds.{quantifier_of}
 use Rattle.checker.specs.Words.{word, word_at, nodes_in, quantifier_at, claim_of}
 use Rattle.checker.specs.Sorts.{is_set_q}
 use Rattle.checker.proofs.Accepted.{accepted_claim}
-use Rattle.matrix.proofs.Positions.{kind_word}
+use Rattle.matrix.proofs.Positions.{kind_3, kind_4}
 use Rattle.matrix.proofs.patterns.over_sets.Statement.{statement}
 use Rattle.matrix.proofs.patterns.over_sets.Tie as tie
 use Rattle.matrix.proofs.patterns.over_sets.Reads as reads
 use Rattle.matrix.proofs.patterns.over_sets.Lts as lts
 use Rattle.checker.proofs.word.Reads as word-reads
-use Rattle.checker.proofs.kinds.binds_set.Reads as binds-set-reads
 use Rattle.checker.proofs.Claims.{node_count, quantifier_in}
 
-module _ (s : lts.Start (word-reads.Asked, word-reads.Learnt, binds-set-reads.Asked, binds-set-reads.Learnt) reads.Pre reads.Post) where
+module _ (s : lts.Start (word-reads.Asked, word-reads.Learnt) reads.Pre reads.Post) where
   few : s.args.shape.nodes * 3 < 4096
   few = let ok = accepted_claim s.args.words.now s.args.shape s.requires.0 in omega (arith, ap (λ x. x.nodes) ok.shape, ok.limited.few_nodes)
 
@@ -43,14 +42,15 @@ add-word c = record { fits = omega (arith, few c.before, small c.before) }
 word-requires : tie.Need-word-requires
 word-requires c κs = search rules
 
-binds-set-requires : tie.Need-binds-set-requires
-binds-set-requires c κs = search rules
-
 returns : tie.Need-returns
 unfolding word_at
-returns c =
+returns c = let s = c.before.before.before in kind_3 _ (sym c.before.word.ensures ∙ c.if1.true) ∙ ap is_set_q (sym (read s))
+
+returns-2 : tie.Need-returns-2
+unfolding word_at
+returns-2 c =
     let s = c.before.before.before in
-    c.binds-set.ensures ∙ ap is_set_q (ap (λ n. quantifier_of (pos n)) c.before.word.ensures ∙ kind_word _ ∙ sym (read s))
+    ap (λ m. eqb m 4) c.before.word.ensures ∙ kind_4 _ (λ e. c.if1.false (c.before.word.ensures ∙ e)) ∙ ap is_set_q (sym (read s))
 
 pub over-sets-spec : {M : Type 1} → statement M
-over-sets-spec = tie.close (tie.spec mul-word add-word word-requires binds-set-requires returns)
+over-sets-spec = tie.close (tie.spec mul-word add-word word-requires returns returns-2)

@@ -4,29 +4,29 @@ use Prim.Native.Nat.{◌-◌}
 use native.Mathlib.Omega.{arith}
 use Rattle.checker.specs.Claim.{disj, neg}
 use Rattle.emission.proofs.Writing.{as_node, nodes_after, nodes_then, room_part, room_after}
-use Rattle.reducer.specs.Closing.{limit_in}
-use Rattle.reducer.proofs.Constraints.{limit_some, all_parts}
+use Rattle.reducer.specs.Closing.{constraint_in}
+use Rattle.reducer.proofs.Constraints.{constraint_some, all_parts}
 use borrow.Author.Rules.{rules}
 use Rattle.reducer.proofs.constraint.put_all.Statement.{statement}
 use Rattle.reducer.proofs.constraint.put_all.Tie as tie
 
-put-limit-requires : tie.Need-put-limit-requires
-put-limit-requires c κs = (room_part _ (omega arith) c.before.requires.0, c.before.requires.1)
+put-constraint-requires : tie.Need-put-constraint-requires
+put-constraint-requires c κs = (room_part _ (omega arith) c.before.requires.0, c.before.requires.1)
 
 sub-put-node : tie.Need-overflow-sub-put-node
 sub-put-node c =
     let a = c.before.before.before.before.args in
-    omega (arith, nodes_after c.before.before.put-limit.ensures, limit_some a.one a.frame a.body.nodes)
+    omega (arith, nodes_after c.before.before.put-constraint.ensures, constraint_some a.frame a.body.nodes)
 
 put-node-requires : tie.Need-put-node-requires
 put-node-requires c κs =
-    let room = room_after 1 (omega arith) c.before.before.before.before.requires.0 c.before.before.put-limit.ensures in
+    let room = room_after 1 (omega arith) c.before.before.before.before.requires.0 c.before.before.put-constraint.ensures in
     (room, search rules, omega (arith, room.numbers), search rules)
 
 put-node-requires-2 : tie.Need-put-node-requires-2
 put-node-requires-2 c κs =
     let start = c.before.before.before.before.before.before.before in
-    let put = c.before.before.before.before.before.put-limit in
+    let put = c.before.before.before.before.before.put-constraint in
     let room = room_after 2 (omega arith) start.requires.0 put.ensures in (
       room_after 1 (omega arith) room (as_node (neg (put.result - 1)) c.before.before.put-node.ensures),
       search rules,
@@ -40,10 +40,10 @@ same_length c = search rules
 returns : tie.Need-returns
 returns c =
     let a = c.before.before.before.before.before.before.before.before.before.args in
-    let put = c.before.before.before.before.before.before.before.put-limit in
+    let put = c.before.before.before.before.before.before.before.put-constraint in
     let other = as_node (neg (put.result - 1)) c.before.before.before.before.put-node.ensures in
     let next = as_node (disj put.result a.body.root) c.before.put-node2.ensures in (
-      nodes_then (all_parts (limit_in a.one a.frame a.body.nodes) a.body.nodes a.body.root put.result (nodes_after put.ensures))
+      nodes_then (all_parts (constraint_in a.frame a.body.nodes) a.body.nodes a.body.root put.result (nodes_after put.ensures))
           put.ensures (nodes_then refl other next),
       omega (arith, nodes_after next),
     )
@@ -52,7 +52,7 @@ pub put-all-spec : {M : Type 1} → statement M
 put-all-spec =
     tie.close
     (tie.spec
-    put-limit-requires
+    put-constraint-requires
     sub-put-node
     put-node-requires
     put-node-requires-2

@@ -3,7 +3,7 @@ use native.Mathlib.Omega.{arith}
 use Rattle.checker.specs.Words.{claim_of}
 use Rattle.checker.proofs.Claims.{sound}
 use Rattle.reducer.proofs.Sizes.{constraints_length}
-use Rattle.reducer.proofs.Counted.{further_few, regions_known, regions_some, regions_few}
+use Rattle.reducer.proofs.Counted.{alls_few, regions_known, regions_some, regions_few}
 use borrow.Author.Rules.{rules}
 use Rattle.reducer.proofs.size.constraint_nodes.Statement.{statement}
 use Rattle.reducer.proofs.size.constraint_nodes.Tie as tie
@@ -17,21 +17,21 @@ sub-result c = regions_some (sound c.args.words.now _ c.requires)
 mul-result : tie.Need-overflow-mul-result
 mul-result c = omega (arith, regions_few (sound c.args.words.now _ c.requires))
 
-further-nodes-requires : tie.Need-further-nodes-requires
-further-nodes-requires c κs = search rules
+for-alls-requires : tie.Need-for-alls-requires
+for-alls-requires c κs = search rules
 
 add-result : tie.Need-overflow-add-result
 add-result c =
     let start = c.before in
     let known = sound start.args.words.now start.args.shape start.requires in
-    omega (arith, regions_few known, c.further-nodes.ensures, further_few (claim_of start.args.words.now).quantifiers (omega (arith, known.sets, known.few_sets)))
+    omega (arith, regions_few known, c.for-alls.ensures, alls_few (claim_of start.args.words.now).quantifiers, known.quantifiers, known.few_quantifiers)
 
 returns : tie.Need-returns
 returns c =
     let start = c.before in
     let known = sound start.args.words.now start.args.shape start.requires in
-    omega (arith, regions_known known, c.further-nodes.ensures, constraints_length (claim_of start.args.words.now))
+    omega (arith, regions_known known, c.for-alls.ensures, constraints_length (claim_of start.args.words.now))
 
 pub constraint-nodes-spec : {M : Type 1} → statement M
 constraint-nodes-spec =
-    tie.close (tie.spec shl-regions sub-result mul-result further-nodes-requires add-result returns)
+    tie.close (tie.spec shl-regions sub-result mul-result for-alls-requires add-result returns)

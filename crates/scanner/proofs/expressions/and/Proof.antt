@@ -2,7 +2,7 @@
 use mathlib.Core.Path.{refl}
 use borrow.Author.Rules.{rules}
 use Rattle.checker.specs.Claim.{conj}
-use Rattle.sentence.specs.Scan.{one_from, twoFrom, andFrom}
+use Rattle.sentence.specs.Scan.{oneFrom, twoFrom, andFrom}
 use Rattle.scanner.specs.Places.{two_at, one_at}
 use Rattle.scanner.proofs.Chains.{told}
 use Rattle.scanner.proofs.expressions.and.Statement.{statement}
@@ -24,7 +24,7 @@ divided-by-0-requires : tie.Need-divided-by-0-requires
 divided-by-0-requires c κs = search rules
 
 returns-2 : tie.Need-returns-2
-unfolding andFrom one_from one_at
+unfolding andFrom oneFrom one_at
 returns-2 c =
     let k1 = c.before in
     rw (told k1.before.byte-is.ensures k1.if1.false) c.divided-by-0.ensures

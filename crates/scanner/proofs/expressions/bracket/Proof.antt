@@ -2,7 +2,7 @@
 use mathlib.Core.Path.{refl, sym, ◌∙◌}
 use borrow.Author.Rules.{rules}
 use Rattle.checker.specs.Claim.{sum, less, disj, neg}
-use Rattle.sentence.specs.Scan.{one_from, twoFrom, bracketFrom}
+use Rattle.sentence.specs.Scan.{oneFrom, twoFrom, bracketFrom}
 use Rattle.scanner.specs.Places.{two_at, one_at}
 use Rattle.scanner.proofs.Chains.{differs}
 use Rattle.scanner.proofs.expressions.bracket.Statement.{statement}
@@ -64,7 +64,7 @@ unfolding bracketFrom twoFrom two_at
 returns-7 c = rw (sym c.before.before.byte_at.ensures ∙ c.before.match.keys7) (c.two-fields3.ensures disj (λ x y. refl))
 
 returns-8 : tie.Need-returns-8
-unfolding bracketFrom one_from one_at
+unfolding bracketFrom oneFrom one_at
 returns-8 c =
     let e = c.before.before.byte_at.ensures in
     let o = c.before.match.rest in

@@ -3,7 +3,7 @@ use lib.IntN.{pos}
 use mathlib.Core.Path.{refl}
 use borrow.Author.Rules.{rules}
 use Rattle.checker.specs.Claim.{num_var, const}
-use Rattle.sentence.specs.Scan.{one_from, exprFrom}
+use Rattle.sentence.specs.Scan.{oneFrom, exprFrom}
 use Rattle.scanner.specs.Places.{one_at}
 use Rattle.scanner.proofs.Chains.{told}
 use Rattle.scanner.proofs.expressions.expression.Statement.{statement}
@@ -28,7 +28,7 @@ one-field-requires : tie.Need-one-field-requires
 one-field-requires c κs = search rules
 
 returns-2 : tie.Need-returns-2
-unfolding exprFrom one_from one_at
+unfolding exprFrom oneFrom one_at
 returns-2 c =
     let k2 = c.before in
     let k1 = k2.before.before in
@@ -52,7 +52,7 @@ one-field-requires-2 : tie.Need-one-field-requires-2
 one-field-requires-2 c κs = search rules
 
 returns-4 : tie.Need-returns-4
-unfolding exprFrom one_from one_at
+unfolding exprFrom oneFrom one_at
 returns-4 c =
     let k3 = c.before in
     let k2 = k3.before.before in

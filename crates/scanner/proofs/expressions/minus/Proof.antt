@@ -3,7 +3,7 @@ use lib.IntN.{pos, neg_ℤ}
 use mathlib.Core.Path.{refl}
 use borrow.Author.Rules.{rules}
 use Rattle.checker.specs.Claim.{const, diff}
-use Rattle.sentence.specs.Scan.{one_from, twoFrom, minusFrom}
+use Rattle.sentence.specs.Scan.{oneFrom, twoFrom, minusFrom}
 use Rattle.scanner.specs.Places.{two_at, one_at}
 use Rattle.scanner.proofs.Chains.{told}
 use Rattle.scanner.proofs.expressions.minus.Statement.{statement}
@@ -25,7 +25,7 @@ one-field-requires : tie.Need-one-field-requires
 one-field-requires c κs = search rules
 
 returns-2 : tie.Need-returns-2
-unfolding minusFrom one_from one_at
+unfolding minusFrom oneFrom one_at
 returns-2 c =
     let k1 = c.before in
     rw (told k1.before.byte-is.ensures k1.if1.false) (c.one_field.ensures (λ k. const (neg_ℤ (pos k))) (λ x. refl))

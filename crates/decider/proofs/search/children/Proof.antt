@@ -2,8 +2,8 @@ use native.Mathlib.Omega.{arith}
 use borrow.Author.Rules.{rules}
 use lib.ListN.{length-set}
 use Rattle.decider.proofs.Heap.{placed}
-use Rattle.decider.proofs.pass.children.Statement.{statement}
-use Rattle.decider.proofs.pass.children.Tie as tie
+use Rattle.decider.proofs.search.children.Statement.{statement}
+use Rattle.decider.proofs.search.children.Tie as tie
 
 mul-counts : tie.Need-overflow-mul-counts
 mul-counts c = search rules
