@@ -16,20 +16,20 @@ const MARK: usize = 2005;
 const NO_NUMBER: usize = 4294967295;
 
 // Which tables are taken: claims over sets, or emitted ones, larger and without sets.
-#[derive(Drop)]
+#[derive(Clone, Copy)]
 pub enum Dialect {
     SetClaims,
     Emitted,
 }
 
-#[derive(Drop)]
+#[derive(Clone, Copy)]
 pub struct Refusal {
     pub number: usize,
     pub place: usize,
 }
 
 // What the layers above need of an accepted table.
-#[derive(Drop)]
+#[derive(Clone, Copy)]
 pub struct Shape {
     pub nodes: usize,
     pub quantifiers: usize,
@@ -37,14 +37,14 @@ pub struct Shape {
     pub root: usize,
 }
 
-#[derive(Drop)]
+#[derive(Clone, Copy)]
 pub enum Checked {
     Accepted(Shape),
     Refused(Refusal),
 }
 
 // What a node is.
-#[derive(Drop)]
+#[derive(Clone, Copy)]
 pub enum Sort {
     ASet,
     ATerm,
@@ -53,7 +53,7 @@ pub enum Sort {
 }
 
 // What a quantifier ranges over.
-#[derive(Drop)]
+#[derive(Clone, Copy)]
 pub enum Range {
     Sets,
     Numbers,
@@ -61,7 +61,7 @@ pub enum Range {
 }
 
 // What a field of a node must be.
-#[derive(Drop)]
+#[derive(Clone, Copy)]
 pub enum Need {
     Unused,
     Word,
@@ -73,7 +73,7 @@ pub enum Need {
     Never,
 }
 
-#[derive(Drop)]
+#[derive(Clone, Copy)]
 pub struct Row {
     pub a: Need,
     pub b: Need,
