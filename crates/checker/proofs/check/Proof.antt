@@ -4,12 +4,12 @@ use Rattle.checker.specs.Check.{check_of}
 use Rattle.checker.proofs.check.Statement.{statement}
 use Rattle.checker.proofs.check.Tie as tie
 
-check-as-requires : tie.Need-check-as-requires
+check-as-requires : tie.Need-check_as-requires
 check-as-requires c κs = search rules
 
 returns : tie.Need-returns
 unfolding check_of
-returns c = c.check-as.ensures
+returns c = c.check_as.ensures
 
 pub check-spec : {M : Type 1} → statement M
 check-spec = tie.close (tie.spec check-as-requires returns)

@@ -56,7 +56,7 @@ returns-3 c =
     ∙ at_2_nodes (plain_as i.before.args.dialect i.before.args.words.now) i.if1.false _ w.word.ensures n.before.if2.false _ n.word2.ensures
     (under 1 (most_nodes i.before.args.dialect) n.word2.result c.before.if3.true)
 
-most-nodes-requires : tie.Need-most-nodes-requires
+most-nodes-requires : tie.Need-most_nodes-requires
 most-nodes-requires c κs = search rules
 
 sub-refused-2 : tie.Need-overflow-sub-refused-2
@@ -81,7 +81,7 @@ sub-word-3 c = search rules
 word-requires-3 : tie.Need-word-requires-3
 word-requires-3 c κs = search rules
 
-most-quantifiers-requires : tie.Need-most-quantifiers-requires
+most-quantifiers-requires : tie.Need-most_quantifiers-requires
 most-quantifiers-requires c κs = search rules
 
 sub-refused-3 : tie.Need-overflow-sub-refused-3
@@ -130,7 +130,7 @@ returns-6 c =
     ∙ at_3 (plain_as i.before.args.dialect i.before.args.words.now) i.if1.false _ w.word.ensures n.before.if2.false _ n.word2.ensures
     (inside 1 (most_nodes i.before.args.dialect) n.word2.result (omega arith) (omega arith)) _ q.word3.ensures (omega arith) c.before.if6.true
 
-check-parts-requires : tie.Need-check-parts-requires
+check-parts-requires : tie.Need-check_parts-requires
 check-parts-requires c κs = search rules
 
 returns-7 : tie.Need-returns-7

@@ -36,7 +36,7 @@ returns c =
     c.refused.ensures
     ∙ at_4 a.dialect (table_at a.words.now a.nodes a.quantifiers) (3 * a.nodes) 3 (length a.words.now - 4) [] _ q.first-bad-quantifier.ensures c.before.if1.true
 
-most-sets-requires : tie.Need-most-sets-requires
+most-sets-requires : tie.Need-most_sets-requires
 most-sets-requires c κs = search rules
 
 sets-of-requires : tie.Need-sets-of-requires
@@ -89,10 +89,10 @@ sub_word c = search rules
 word-requires : tie.Need-word-requires
 word-requires c κs = search rules
 
-child-sort-requires : tie.Need-child-sort-requires
+child-sort-requires : tie.Need-child_sort-requires
 child-sort-requires c κs = search rules
 
-is-formula-requires : tie.Need-is-formula-requires
+is-formula-requires : tie.Need-is_formula-requires
 is-formula-requires c κs = search rules
 
 sub-refused : tie.Need-overflow-sub-refused

@@ -7,7 +7,7 @@ use Rattle.checker.proofs.number_of.Tie as tie
 returns : tie.Need-returns
 returns c = negative c.before.args.w (tested _ c.before.ranges.w c.if1.true)
 
-cast-result : tie.Need-overflow-cast-result
+cast-result : tie.Need-overflow_cast-result
 cast-result c =
     rw (to_z-of_z c.before.ranges.w)
     (cast_fits c.before.args.w (tested _ c.before.ranges.w c.if1.false) c.before.ranges.w)

@@ -12,7 +12,7 @@ mul-number-of c = search rules
 shared-slice-copy-out-number-of : tie.Need-shared-slice-copy-out-number-of
 shared-slice-copy-out-number-of c = search rules
 
-number-of-requires : tie.Need-number-of-requires
+number-of-requires : tie.Need-number_of-requires
 number-of-requires c κs = search rules
 
 returns : tie.Need-returns

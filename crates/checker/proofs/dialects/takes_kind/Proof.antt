@@ -9,7 +9,7 @@ enum_told c = search rules
 enum-told-2 : tie.Need-enum-told-2
 enum-told-2 c = search rules
 
-speaks-of-numbers-requires : tie.Need-speaks-of-numbers-requires
+speaks-of-numbers-requires : tie.Need-speaks_of_numbers-requires
 speaks-of-numbers-requires c κs = search rules
 
 returns : tie.Need-returns

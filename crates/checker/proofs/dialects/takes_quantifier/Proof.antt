@@ -9,10 +9,10 @@ enum_told c = search rules
 enum-told-2 : tie.Need-enum-told-2
 enum-told-2 c = search rules
 
-range-of-requires : tie.Need-range-of-requires
+range-of-requires : tie.Need-range_of-requires
 range-of-requires c κs = search rules
 
-over-numbers-requires : tie.Need-over-numbers-requires
+over-numbers-requires : tie.Need-over_numbers-requires
 over-numbers-requires c κs = search rules
 
 returns : tie.Need-returns

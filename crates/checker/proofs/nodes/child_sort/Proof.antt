@@ -13,7 +13,7 @@ mul-word c = search rules
 word-requires : tie.Need-word-requires
 word-requires c κs = search rules
 
-sort-of-requires : tie.Need-sort-of-requires
+sort-of-requires : tie.Need-sort_of-requires
 sort-of-requires c κs = search rules
 
 returns : tie.Need-returns

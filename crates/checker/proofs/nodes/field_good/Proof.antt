@@ -11,7 +11,7 @@ child-sort-requires c κs = search rules
 name-range-requires : tie.Need-name-range-requires
 name-range-requires c κs = search rules
 
-field-serves-requires : tie.Need-field-serves-requires
+field-serves-requires : tie.Need-field_serves-requires
 field-serves-requires c κs = search rules
 
 returns : tie.Need-returns

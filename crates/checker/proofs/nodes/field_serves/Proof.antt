@@ -13,31 +13,31 @@ enum-told-2 c = search rules
 enum-told-3 : tie.Need-enum-told-3
 enum-told-3 c = search rules
 
-is-set-requires : tie.Need-is-set-requires
+is-set-requires : tie.Need-is_set-requires
 is-set-requires c κs = search rules
 
 enum-told-4 : tie.Need-enum-told-4
 enum-told-4 c = search rules
 
-is-term-requires : tie.Need-is-term-requires
+is-term-requires : tie.Need-is_term-requires
 is-term-requires c κs = search rules
 
 enum-told-5 : tie.Need-enum-told-5
 enum-told-5 c = search rules
 
-is-formula-requires : tie.Need-is-formula-requires
+is-formula-requires : tie.Need-is_formula-requires
 is-formula-requires c κs = search rules
 
 enum-told-6 : tie.Need-enum-told-6
 enum-told-6 c = search rules
 
-over-sets-requires : tie.Need-over-sets-requires
+over-sets-requires : tie.Need-over_sets-requires
 over-sets-requires c κs = search rules
 
 enum-told-7 : tie.Need-enum-told-7
 enum-told-7 c = search rules
 
-over-numbers-requires : tie.Need-over-numbers-requires
+over-numbers-requires : tie.Need-over_numbers-requires
 over-numbers-requires c κs = search rules
 
 enum-told-8 : tie.Need-enum-told-8

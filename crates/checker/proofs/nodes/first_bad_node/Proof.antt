@@ -19,7 +19,7 @@ decreases-loop words dialect nodes quantifiers i₀ i = nodes - i
 loop-holds : tie.Need-loop-init invariant-loop decreases-loop
 loop-holds c = upto_none _ _
 
-node-taken-requires : tie.Need-node-taken-requires invariant-loop decreases-loop
+node-taken-requires : tie.Need-node_taken-requires invariant-loop decreases-loop
 node-taken-requires c κs = search rules
 
 returns : tie.Need-returns invariant-loop decreases-loop
@@ -28,7 +28,7 @@ returns c =
     let l = c.before.before.before.loop in
     upto_hit _ _ l.i l.invariant c.before.before.loop-test.true (ap not (sym c.before.node-taken.ensures) ∙ c.if1.true)
 
-add-i : tie.Need-overflow-add-i invariant-loop decreases-loop
+add-i : tie.Need-overflow_add-i invariant-loop decreases-loop
 add-i c = omega arith
 
 loop-less : tie.Need-loop-smaller invariant-loop decreases-loop

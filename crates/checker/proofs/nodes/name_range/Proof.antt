@@ -16,7 +16,7 @@ add-word c = search rules
 word-requires : tie.Need-word-requires
 word-requires c κs = search rules
 
-range-of-requires : tie.Need-range-of-requires
+range-of-requires : tie.Need-range_of-requires
 range-of-requires c κs = search rules
 
 returns : tie.Need-returns

@@ -23,7 +23,7 @@ add-word c = search rules
 word-requires-2 : tie.Need-word-requires-2
 word-requires-2 c κs = search rules
 
-field-good-requires : tie.Need-field-good-requires
+field-good-requires : tie.Need-field_good-requires
 field-good-requires c κs = search rules
 
 mul-word-3 : tie.Need-overflow-mul-word-3

@@ -11,10 +11,10 @@ mul-word c = search rules
 word-requires : tie.Need-word-requires
 word-requires c κs = search rules
 
-takes-kind-requires : tie.Need-takes-kind-requires
+takes-kind-requires : tie.Need-takes_kind-requires
 takes-kind-requires c κs = search rules
 
-node-good-requires : tie.Need-node-good-requires
+node-good-requires : tie.Need-node_good-requires
 node-good-requires c κs = search rules
 
 returns : tie.Need-returns

@@ -26,7 +26,7 @@ add-word c = omega arith
 word-requires : tie.Need-word-requires invariant-loop decreases-loop
 word-requires c κs = search rules
 
-quantifier-taken-requires : tie.Need-quantifier-taken-requires invariant-loop decreases-loop
+quantifier-taken-requires : tie.Need-quantifier_taken-requires invariant-loop decreases-loop
 quantifier-taken-requires c κs = search rules
 
 returns : tie.Need-returns invariant-loop decreases-loop
@@ -35,7 +35,7 @@ returns c =
     let l = c.before.before.before.before.loop in
     upto_hit _ _ l.i l.invariant c.before.before.before.loop-test.true (cc)
 
-add-i : tie.Need-overflow-add-i invariant-loop decreases-loop
+add-i : tie.Need-overflow_add-i invariant-loop decreases-loop
 add-i c = omega arith
 
 loop-less : tie.Need-loop-smaller invariant-loop decreases-loop

@@ -4,13 +4,13 @@ use Rattle.checker.proofs.Rules.{quantifier_breaks, list_decides}
 use Rattle.checker.proofs.quantifiers.quantifier_taken.Statement.{statement}
 use Rattle.checker.proofs.quantifiers.quantifier_taken.Tie as tie
 
-takes-quantifier-requires : tie.Need-takes-quantifier-requires
+takes-quantifier-requires : tie.Need-takes_quantifier-requires
 takes-quantifier-requires c κs = search rules
 
-range-of-requires : tie.Need-range-of-requires
+range-of-requires : tie.Need-range_of-requires
 range-of-requires c κs = search rules
 
-is-known-requires : tie.Need-is-known-requires
+is-known-requires : tie.Need-is_known-requires
 is-known-requires c κs = search rules
 
 returns : tie.Need-returns

@@ -32,10 +32,10 @@ add-word c = omega arith
 word-requires : tie.Need-word-requires invariant-loop decreases-loop
 word-requires c κs = search rules
 
-range-of-requires : tie.Need-range-of-requires invariant-loop decreases-loop
+range-of-requires : tie.Need-range_of-requires invariant-loop decreases-loop
 range-of-requires c κs = search rules
 
-over-sets-requires : tie.Need-over-sets-requires invariant-loop decreases-loop
+over-sets-requires : tie.Need-over_sets-requires invariant-loop decreases-loop
 over-sets-requires c κs = search rules
 
 returns : tie.Need-returns invariant-loop decreases-loop
@@ -48,12 +48,12 @@ returns c =
       l.invariant.1,
     )
 
-add-seen : tie.Need-overflow-add-seen invariant-loop decreases-loop
+add-seen : tie.Need-overflow_add-seen invariant-loop decreases-loop
 add-seen c =
     let a = c.before.before.before.before.before.before.before.args in
     omega (arith, count_le (binds_set (table_at a.words.now a.nodes a.quantifiers)) c.before.before.before.before.before.before.loop.i)
 
-add-i : tie.Need-overflow-add-i invariant-loop decreases-loop
+add-i : tie.Need-overflow_add-i invariant-loop decreases-loop
 add-i c = omega arith
 
 loop-less : tie.Need-loop-smaller invariant-loop decreases-loop
