@@ -1,4 +1,6 @@
 // The table checker: a run of signed words is accepted as a claim, or refused with the document's number and place.
+#![tactic(auto)]
+
 ghost use Rattle.std.specs.Prelude.{◌≡◌, [], ◌+◌, ◌*◌, ◌-◌, length};
 ghost use Rattle.checker.specs.Kinds.{number};
 ghost use Rattle.checker.specs.Words.{word_at};
