@@ -16,7 +16,7 @@ use Rattle.decimal.specs.Reading.{most_negative}
 
 -- an i32 that was cast to i64 and read back
 pub back : (z : ℤ) → SFits w32 z → to_z w64 (of_z w64 (to_z w32 (of_z w32 z))) ≡ z
-back z f = ap (λ (y : ℤ). to_z w64 (of_z w64 y)) (to_z-of_z f) ∙ to_z-of_z (sfits_widen tt f)
+back z f = ap (λ (y : ℤ). to_z w64 (of_z w64 y)) (to_z-of_z f) ∙ to_z-of_z {w = w64} (sfits_widen {w = w32} {w' = w64} tt f)
 
 pub neg_is : (z : ℤ) → pos 0 -ℤ z ≡ neg_ℤ z
 neg_is z = +ℤ_idl (neg_ℤ z)

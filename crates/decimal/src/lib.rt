@@ -1,4 +1,7 @@
 // Decimal numbers in text: read out of a text, and put into one.
+
+#![tactic(auto)]
+
 mod print; // numbers, words and lines put into a text
 mod read; // numbers and words read out of a text
 
@@ -6,21 +9,21 @@ pub use print::{magnitude, put_byte, put_bytes, put_decimal, put_line, put_word}
 pub use read::{negative, read_number, read_words};
 
 // A number, or something else.
-#[derive(Drop)]
+#[derive(Clone, Copy)]
 pub enum Number {
     Value(u64),
     NoNumber,
 }
 
 // A word, or something else.
-#[derive(Drop)]
+#[derive(Clone, Copy)]
 pub enum Word {
     Value(i32),
     NoWord,
 }
 
 // As many words as that; or something else than words, or more of them than there is room for.
-#[derive(Drop)]
+#[derive(Clone, Copy)]
 pub enum Scanned {
     Words(usize),
     NoWords,

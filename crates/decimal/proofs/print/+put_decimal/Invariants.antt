@@ -1,0 +1,5 @@
+-- `decimal::print::put_decimal`: the measure is the number. Assumes nothing.
+use Rattle.decimal.proofs.print.+put_decimal.Given as goal
+
+abbrev pub decreases-put_decimal : goal.decreases-put_decimal
+decreases-put_decimal l = l.n
