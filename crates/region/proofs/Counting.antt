@@ -29,9 +29,9 @@ module _ (r : ℕ → ℕ) where
   at : (vs : List Value) (i : ℕ) → get_or (map (pull r) vs) i (truth false) ≡ pull r (get_or vs i (truth false))
   at vs i = get_or-map (pull r) vs i (truth false)
 
-  pub set_at : (vs : List Value) (i : ℕ) → set_at (map (pull r) vs) i ≡ (λ p. set_at vs i (r p))
+  pub set_at_lem : (vs : List Value) (i : ℕ) → set_at (map (pull r) vs) i ≡ (λ p. set_at vs i (r p))
   unfolding set_at
-  set_at vs i = ap as_set (at vs i) ∙ go (get_or vs i (truth false))
+  set_at_lem vs i = ap as_set (at vs i) ∙ go (get_or vs i (truth false))
     where
       go : (v : Value) → as_set (pull r v) ≡ (λ p. as_set v (r p))
       go (set s) = refl
@@ -59,24 +59,24 @@ module _ (r : ℕ → ℕ) where
   module _ {P W : World} (o : Over r P W) (qs : List Value) where
     value_of_lem : (vs : List Value) (n : Node) → value_of P (map (pull r) qs) (map (pull r) vs) n ≡ pull r (value_of W qs vs n)
     unfolding value_of
-    value_of_lem vs (set_var q) = rw (set_at qs q)
+    value_of_lem vs (set_var q) = rw (set_at_lem qs q)
     value_of_lem vs empty = refl
     value_of_lem vs whole = refl
-    value_of_lem vs (union a b) = rw (set_at vs a, set_at vs b)
-    value_of_lem vs (inter a b) = rw (set_at vs a, set_at vs b)
-    value_of_lem vs (compl a) = rw (set_at vs a)
+    value_of_lem vs (union a b) = rw (set_at_lem vs a, set_at_lem vs b)
+    value_of_lem vs (inter a b) = rw (set_at_lem vs a, set_at_lem vs b)
+    value_of_lem vs (compl a) = rw (set_at_lem vs a)
     value_of_lem vs (num_var q) = rw (num_at_lem qs q)
     value_of_lem vs (const c) = refl
     value_of_lem vs maxc = rw o.size
     value_of_lem vs (sum a b) = rw (num_at_lem vs a, num_at_lem vs b)
     value_of_lem vs (diff a b) = rw (num_at_lem vs a, num_at_lem vs b)
     value_of_lem vs (multiple c b) = rw (num_at_lem vs b)
-    value_of_lem vs (card a) = rw (set_at vs a, o.count (set_at vs a))
+    value_of_lem vs (card a) = rw (set_at_lem vs a, o.count (set_at vs a))
     value_of_lem vs (equal a b) = rw (num_at_lem vs a, num_at_lem vs b)
     value_of_lem vs (less a b) = rw (num_at_lem vs a, num_at_lem vs b)
     value_of_lem vs (divided c b) = rw (num_at_lem vs b)
-    value_of_lem vs (setEqual a b) = rw (set_at vs a, set_at vs b, o.same (set_at vs a) (set_at vs b))
-    value_of_lem vs (subset a b) = rw (set_at vs a, set_at vs b, o.within (set_at vs a) (set_at vs b))
+    value_of_lem vs (setEqual a b) = rw (set_at_lem vs a, set_at_lem vs b, o.same (set_at vs a) (set_at vs b))
+    value_of_lem vs (subset a b) = rw (set_at_lem vs a, set_at_lem vs b, o.within (set_at vs a) (set_at vs b))
     value_of_lem vs (conj a b) = rw (truth_at_lem vs a, truth_at_lem vs b)
     value_of_lem vs (disj a b) = rw (truth_at_lem vs a, truth_at_lem vs b)
     value_of_lem vs (neg a) = rw (truth_at_lem vs a)

@@ -2,6 +2,8 @@
 // No other crate looks at the words. A table of up to 1,024 words has one word an entry, enough for six sets; behind these stand the
 // entries' further words, where there is room for those of all: regions 64 to 127 in the second words and so on. With s sets there are 2^s regions; the set whose
 // bit stands at a position of a region's number has that many sets inside it.
+#![tactic(auto)]
+
 ghost use Rattle.std.specs.Prelude.{◌≡◌, true, false, not, ◌&&◌, ◌||◌, ◌∷◌, ℕ, ◌+◌, ◌*◌, ◌^◌, ◌<◌, ◌≤◌, ltb, length};
 ghost use Rattle.std.specs.Bool.{xor};
 ghost use Rattle.checker.specs.Meaning.{Set};
@@ -36,7 +38,7 @@ const POSITIONS: [u64; 6] = [
 const PLACES: usize = 8;
 
 // What a written entry covers, of two operands: a number is that of the sets, before it the position of one.
-#[derive(Drop)]
+#[derive(Clone, Copy)]
 pub enum Form {
     Nothing,
     Whole(usize),
