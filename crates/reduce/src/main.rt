@@ -1,13 +1,15 @@
 // Reads a claim from standard input, and prints the table of the claim that it is reduced to, or why it is refused.
+#![tactic(auto)]
+
 use streams::Input;
 
-fn main() {
+fn main(rt: HostRuntime) {
     // One byte more than an input text may have.
-    let mut input = io::large_buffer();
-    let Input::Bytes(count) = streams::read_input(&mut input) else {
+    let mut input = [0u8; 65536];
+    let Input::Bytes(count) = streams::read_input(&rt, &mut input) else {
         return;
     };
     let mut out = [0u8; 196608];
     let n = text::answer_reduce(&input[..count], &mut out);
-    streams::write_output(&out[..n]);
+    streams::write_output(&rt, &out[..n]);
 }
