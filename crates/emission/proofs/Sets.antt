@@ -3,7 +3,7 @@
 use mathlib.Core.Path.{◌≡◌, refl, sym, ap, ap₂, ◌∙◌, fun_ext}
 use mathlib.Core.Bool.{Bool, true, false, cond, not, ◌&&◌, ◌||◌}
 use mathlib.Core.List.{List, ◌∷◌}
-use Prim.Native.Nat.{ℕ, suc, ◌+◌, ◌*◌, ◌-◌, ◌^◌, ◌≤◌, ◌<◌}
+use Prim.Native.Nat.{ℕ, suc, ◌+◌, ◌*◌, ◌^◌, ◌≤◌, ◌<◌}
 use native.Mathlib.Nat.{sub-zero}
 use native.Mathlib.Omega.{arith}
 use lib.Dec.{ltb}
@@ -23,7 +23,7 @@ use Rattle.region.specs.Regions.{minus, covered}
 use Rattle.region.specs.Pattern.{covers, word_bits, entries, room_in, covers_at, regions_from, Put}
 use Rattle.region.proofs.Pattern.{words_same}
 use Rattle.emission.specs.declared.Frame as code
-use Rattle.emission.specs.Emission.{Frame, none, start, inside_all, pattern_of}
+use Rattle.emission.specs.Emission.{none, start, inside_all, pattern_of}
 use Rattle.emission.specs.Plan.{frame_at}
 use Rattle.emission.specs.Runs.{frame_of, emitted_to, Patterned, Ready, without, Spared}
 use Rattle.emission.proofs.Steps.{next_dropped, cover_at, cover_bit}
