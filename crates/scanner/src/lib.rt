@@ -1,4 +1,7 @@
 // A solver's text taken apart: the numbers that stand in it, and the few bytes that tell two forms apart. All other bytes are passed over.
+
+#![tactic(auto)]
+
 mod expressions; // what a let binds
 mod lines; // the lines of nodes and of quantifiers
 mod places; // bytes, places and numbers
@@ -7,14 +10,14 @@ pub use lines::{line_at, quantifier_at, quantifies};
 pub use places::{byte_is, numeral_at, past};
 
 // The number that digits say, and the place after them.
-#[derive(Drop)]
+#[derive(Clone, Copy)]
 pub struct Numeral {
     pub value: u64,
     pub next: usize,
 }
 
 // A node: its kind, the sign and the number of its field a, and its field b; and the place after it.
-#[derive(Drop)]
+#[derive(Clone, Copy)]
 pub struct Line {
     pub kind: usize,
     pub minus: bool,
@@ -24,7 +27,7 @@ pub struct Line {
 }
 
 // A quantifier's kind, and the place after its lines.
-#[derive(Drop)]
+#[derive(Clone, Copy)]
 pub struct Bound {
     pub kind: usize,
     pub next: usize,

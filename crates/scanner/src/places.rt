@@ -79,7 +79,7 @@ pub fn numeral_at(text: &[u8], at: usize) -> Numeral
 }
 
 // Two numbers, and the place after them.
-#[derive(Drop)]
+#[derive(Clone, Copy)]
 pub struct Pair {
     pub first: u64,
     pub second: u64,
