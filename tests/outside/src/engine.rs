@@ -184,16 +184,20 @@ pub fn decide(words: &[i32], size: u32, allowance: u64) -> Row {
     whole(decide_into(words, (size, allowance), ROW, ROW))
 }
 
-/// The folder of the product's programs.
+/// The product's programs: each is `NAME/out/NAME` in the folder of its crates.
 pub struct Programs {
     pub folder: PathBuf,
 }
 
 impl Programs {
+    fn path(&self, program: &str) -> PathBuf {
+        self.folder.join(program).join("out").join(program)
+    }
+
     /// What a program prints for arguments and a text, or how it ended if it
     /// did not end by itself. The exit code is left open.
     pub fn run(&self, program: &str, arguments: &[Vec<u8>], text: &[u8]) -> Result<String, String> {
-        let mut child = Command::new(self.folder.join(program))
+        let mut child = Command::new(self.path(program))
             .args(arguments.iter().map(|argument| OsStr::from_bytes(argument)))
             .stdin(Stdio::piped())
             .stdout(Stdio::piped())
@@ -228,7 +232,7 @@ impl Programs {
         let (redirections, before) = shell.split_once(';').unwrap_or((shell, ":"));
         let mut child = Command::new("sh")
             .args(["-c", &format!("{before}\nexec \"$0\" \"$@\" {redirections}")])
-            .arg(self.folder.join(program))
+            .arg(self.path(program))
             .args(arguments)
             .stdin(Stdio::piped())
             .stdout(out)

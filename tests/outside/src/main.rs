@@ -1,7 +1,8 @@
 //! The outside tests of Zuccarvento. The first argument is the folder of the
-//! product's programs `reduce`, `decide` and `smt`; its library is linked
-//! in, and the solvers z3 and cvc5 are found by the shell's path. With a
-//! second argument only the groups with that in their names are run.
+//! product's crates, where the programs `reduce`, `decide` and `smt` are
+//! `NAME/out/NAME`; its library is linked in, and the solvers z3 and cvc5 are
+//! found by the shell's path. With a second argument only the groups with
+//! that in their names are run.
 //!
 //! One line per group tells how many comparisons it made; the last line is
 //! their sum. What one comparison is, `cases/tally.rs` says.
@@ -21,7 +22,7 @@ use engine::Programs;
 fn main() -> std::process::ExitCode {
     let Some(folder) = std::env::args_os().nth(1) else {
         eprintln!(
-            "usage: outside FOLDER [PART], where FOLDER holds the programs reduce, decide and smt"
+            "usage: outside FOLDER [PART], where FOLDER holds the crates of the programs reduce, decide and smt"
         );
         return std::process::ExitCode::from(2);
     };
