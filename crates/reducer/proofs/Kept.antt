@@ -26,9 +26,9 @@ set_is : (us vs : List Value) (i j : ℕ) → get_or us i no_value ≡ get_or vs
 unfolding set_at
 set_is us vs i j e = ap as_set e
 
-set_at : (us : List Value) (i : ℕ) {v : Value} → get_or us i no_value ≡ v → set_at us i ≡ as_set v
+set_at_lem : (us : List Value) (i : ℕ) {v : Value} → get_or us i no_value ≡ v → set_at us i ≡ as_set v
 unfolding set_at
-set_at us i e = ap as_set e
+set_at_lem us i e = ap as_set e
 
 -- The quantifiers' values: `us` of the emission, `vs` of the claim over the regions of counts cs.
 pub record Final (w : World) (qs : List Quantifier) (f : Frame) (us vs : List Value) (cs : List ℕ) : Type 0 where
@@ -180,7 +180,7 @@ module _ (w : World) (qs : List Quantifier) (f : Frame) (us vs : List Value) (cs
       new_set : Is ASet (done ++ n ∷ []) (length e.patterns) → set_at (ins (done ++ n ∷ [])) (length e.patterns) ≡ pattern_of f (pat done e h) n
       new_set j =
           let k : sort n ≡ ASet = new_sort done n _ sh.patterns_long j in
-          set_at _ _ (new_in _ sh.patterns_long) ∙ pattern_is done e h n (ap is_set k) i
+          set_at_lem _ _ (new_in _ sh.patterns_long) ∙ pattern_is done e h n (ap is_set k) i
 
       old_value : (s : Sort) → Scalar s → (a : ℕ) → a < length e.stands → Is s (done ++ n ∷ []) a
           → get_or all (get_or e.stands a 0) no_value ≡ get_or (ins (done ++ n ∷ [])) a no_value

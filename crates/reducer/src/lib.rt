@@ -1,4 +1,6 @@
 // The reducer: a claim is emitted as a counting claim, which has no sets and is true at the same sizes.
+#![tactic(auto)]
+
 ghost use Rattle.std.specs.Prelude.{◌≡◌, length};
 ghost use Rattle.checker.specs.Claim.{Claim};
 ghost use Rattle.checker.specs.Words.{claim_of};
@@ -24,7 +26,7 @@ const NUMBERS: usize = 2147483648;
 const PLAN: usize = 99;
 
 // How many words were written, or a refusal.
-#[derive(Drop)]
+#[derive(Clone, Copy)]
 pub enum Reduced {
     Emitted(usize),
     Refused(checker::Refusal),

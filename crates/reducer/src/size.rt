@@ -13,7 +13,7 @@ use emission::kinds::ALL_SETS;
 use emission::plan::frame_at;
 
 // How many nodes and quantifiers there are.
-#[derive(Drop)]
+#[derive(Clone, Copy)]
 pub struct Size {
     pub nodes: usize,
     pub quantifiers: usize,

@@ -1,0 +1,66 @@
+-- `reducer::quantifiers::put_quantifier` meets its contract: one law for each kind of quantifier. Assumes nothing.
+use mathlib.Core.Path.{sym, ◌∙◌}
+use native.Mathlib.Omega.{arith}
+use lib.ListN.{length-replicate}
+use Rattle.reducer.proofs.Joining.{known, in_claim, frame_within, other_kind}
+use Rattle.reducer.proofs.Becoming.{kind_small, some_becomes, all_becomes, number_becomes}
+use borrow.Author.Rules.{rules}
+use Rattle.reducer.proofs.quantifiers.put_quantifier.Goals as goal
+
+pub frame_at-frame-requires : goal.frame_at-frame-requires
+frame_at-frame-requires c =
+    let p = c.requires.0 in
+    omega (arith, p.planned.long, in_claim p c.args.j c.requires.1)
+
+pub overflow_mul-shape : goal.overflow_mul-shape
+overflow_mul-shape c =
+    omega (arith, (known c.requires.0).few_nodes)
+
+pub overflow_add-shape : goal.overflow_add-shape
+overflow_add-shape c =
+    let all = known c.requires.0 in
+    omega (arith, all.few_nodes, all.few_quantifiers, c.requires.1)
+
+pub overflow_shl-level : goal.overflow_shl-level
+overflow_shl-level c =
+    omega (arith, (frame_within c.requires.0 c.args.j c.requires.1 c.frame_at-frame.ensures).level)
+
+pub put_repeated-requires : goal.put_repeated-requires
+put_repeated-requires c =
+    let e = c.frame_at-frame.ensures in
+    let run = some_becomes c.requires.0 c.args.j c.requires.1 e (sym c.word-kind.ensures ∙ c.in-3.is) in
+    (rw length-replicate at (rw run at c.requires.2), search rules)
+
+pub overflow_shl-level-in-4 : goal.overflow_shl-level-in-4
+overflow_shl-level-in-4 c =
+    omega (arith, (frame_within c.requires.0 c.args.j c.requires.1 c.frame_at-frame.ensures).level)
+
+pub put_repeated-requires-in-4 : goal.put_repeated-requires-in-4
+put_repeated-requires-in-4 c =
+    let e = c.frame_at-frame.ensures in
+    let run = all_becomes c.requires.0 c.args.j c.requires.1 e (sym c.word-kind.ensures ∙ c.in-4.is) in
+    (rw length-replicate at (rw run at c.requires.2), search rules)
+
+pub put_repeated-requires-in_default : goal.put_repeated-requires-in_default
+put_repeated-requires-in_default c =
+    let kind = c.word-kind in
+    let run = number_becomes c.requires.0 c.args.j c.requires.1 kind.result kind.ensures (other_kind kind.result (search rules) (search rules)) in
+    (rw run at c.requires.2, omega (arith, kind_small c.requires.0 c.args.j c.requires.1 kind.result kind.ensures))
+
+pub returns-in-3 : goal.returns-in-3
+returns-in-3 c =
+    let e = c.frame_at-frame.ensures in
+    rw (some_becomes c.requires.0 c.args.j c.requires.1 e (sym c.word-kind.ensures ∙ c.in-3.is))
+    c.put_repeated.ensures
+
+pub returns-in-4 : goal.returns-in-4
+returns-in-4 c =
+    let e = c.frame_at-frame.ensures in
+    rw (all_becomes c.requires.0 c.args.j c.requires.1 e (sym c.word-kind.ensures ∙ c.in-4.is))
+    c.put_repeated-in-4.ensures
+
+pub returns-in_default : goal.returns-in_default
+returns-in_default c =
+    let kind = c.word-kind in
+    rw (number_becomes c.requires.0 c.args.j c.requires.1 kind.result kind.ensures (other_kind kind.result (search rules) (search rules)))
+    c.put_repeated-in_default.ensures

@@ -1,0 +1,48 @@
+-- `reducer::reduce_claim` meets its contract: what is admitted is written, and what is refused leaves
+-- `out` as it was. Assumes nothing.
+use mathlib.Core.Path.{sym, ◌∙◌}
+use native.Mathlib.Omega.{arith}
+use lib.ListN.{length}
+use Rattle.checker.specs.Words.{claim_of}
+use Rattle.emission.specs.Emission.{emission}
+use Rattle.reducer.proofs.Admitted.{admitted_room, emitted_answer, emitted_held, refused_answer, refused_held}
+use Rattle.checker.proofs.Claims.{sound}
+use Rattle.region.proofs.Pattern.{roomy_same}
+use Rattle.reducer.proofs.reduce_claim.Goals as goal
+
+pub make-requires : goal.make-requires
+make-requires c =
+    (c.requires.0, omega (arith, (sound c.args.words.now _ c.requires.0).few_quantifiers))
+
+pub put_emission-requires : goal.put_emission-requires
+put_emission-requires c =
+    let claim = emission (claim_of c.args.words.now) in
+    let first = c.count-first.ensures.nodes_value in
+    let size = c.emitted-size.ensures in
+    let passed = sym (c.admit-admitted.ensures claim size.nodes_value size.quantifiers_value) ∙ c.in-Accepted.is in record {
+      prepared = (
+        record { accepted = c.requires.0; planned = c.make.ensures.planned },
+        record { nodes = first.0; root = first.1 },
+        roomy_same c.count-first.auto.patterns c.requires.1,
+      );
+      words_in_bounds = admitted_room claim (length c.args.out.now) c.args.shape passed;
+    }
+
+pub returns-in-Accepted : goal.returns-in-Accepted
+returns-in-Accepted c =
+    let claim = emission (claim_of c.args.words.now) in
+    let size = c.emitted-size.ensures in
+    let passed = sym (c.admit-admitted.ensures claim size.nodes_value size.quantifiers_value) ∙ c.in-Accepted.is in
+    let put = c.put_emission.ensures in
+    record {
+      value = emitted_answer claim put passed;
+      out_after = emitted_held claim put (admitted_room claim (length c.args.out.now) c.args.shape passed);
+    }
+
+pub returns-in-Refused : goal.returns-in-Refused
+returns-in-Refused c =
+    let claim = emission (claim_of c.args.words.now) in
+    let size = c.emitted-size.ensures in record {
+      value = refused_answer claim (sym (c.admit-admitted.ensures claim size.nodes_value size.quantifiers_value) ∙ c.in-Refused.is);
+      out_after = refused_held claim _ c.args.out.now;
+    }
