@@ -1,4 +1,7 @@
 // The writer: a claim without sets, as the reducer emits it, as text for a solver.
+
+#![tactic(auto)]
+
 ghost use Rattle.std.specs.Prelude.{◌≡◌, length};
 ghost use Rattle.checker.specs.Words.{claim_of};
 ghost use Rattle.solver.specs.Laid.{Laid};
@@ -18,7 +21,7 @@ pub use pieces::put_one;
 pub use size::closing;
 
 // How many bytes were written, or a refusal.
-#[derive(Drop)]
+#[derive(Clone, Copy)]
 pub enum Written {
     Bytes(usize),
     Refused(Refusal),

@@ -1,0 +1,28 @@
+-- `solver::write_claim` meets its contract: what has room is written, and what has none leaves `out` as it was. Assumes nothing.
+use Prim.Native.Nat.{◌≤◌}
+use native.Mathlib.Omega.{arith}
+use lib.ListN.{length}
+use Rattle.checker.specs.Words.{claim_of}
+use Rattle.checker.specs.Check.{refusal}
+use Rattle.sentence.specs.Text.{text_of}
+use Rattle.solver.proofs.Answers.{too_short, refused_held, written-fitted, written_held}
+use Rattle.solver.proofs.write_claim.Goals as goal
+
+pub returns-then-out-needed : goal.returns-then-out-needed
+unfolding refusal
+returns-then-out-needed c =
+    let claim = claim_of c.args.words.now in
+    record {
+      value = too_short claim (length c.args.out.now) c.text_length-needed.ensures c.if-out-needed.true;
+      out_after = refused_held claim _ c.args.out.now;
+    }
+
+pub returns : goal.returns
+returns c =
+    let claim = claim_of c.args.words.now in
+    let put = c.put_text.ensures in
+    let room : length (text_of claim) ≤ length c.args.out.now = omega (arith, c.text_length-needed.ensures, c.if-out-needed.false) in
+    record {
+      value = written-fitted claim put room;
+      out_after = written_held claim put room;
+    }
