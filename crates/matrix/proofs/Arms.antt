@@ -22,7 +22,7 @@ use Rattle.matrix.proofs.Rows.{AllRows, in_rows}
 
 -- a child's value that was read by the child's word
 pub got : (xs : List ℤ) (r z : ℤ) → mag r < 2 ^ 31 → SFits w32 z → r ≡ word xs (number (to_z w32 (of_z w32 z))) → to_z w32 (of_z w32 r) ≡ word xs (number z)
-got xs r z h f e = to_z-of_z (sfits_of h) ∙ e ∙ ap (λ y. word xs (number y)) (to_z-of_z f)
+got xs r z h f e = to_z-of_z {w = w32} (sfits_of h) ∙ e ∙ ap (λ y. word xs (number y)) (to_z-of_z f)
 
 module _ (ws : List ℤ) (N p : ℕ) (xs : List ℤ) (i : ℕ) (ok : Workable ws N p xs i) where
   abbrev kind : ℤ

@@ -1,7 +1,7 @@
 -- The sets' values over the final regions are what the quantifiers make of them one after the other, from the outermost in. Assumes nothing.
 use mathlib.Core.Path.{◌≡◌, refl, sym, ap, fun_ext, ◌∙◌}
 use mathlib.Core.List.{List, [], ◌∷◌, ◌++◌, map, append_assoc, append-nil, map-append, map-map, map-id}
-use Prim.Native.Nat.{ℕ, suc, ◌+◌, ◌/◌, ◌^◌}
+use Prim.Native.Nat.{ℕ, suc, ◌/◌, ◌^◌}
 use native.Mathlib.Nat.{div-one}
 use native.Mathlib.Numerals.{add-one}
 use lib.IntN.{pos}

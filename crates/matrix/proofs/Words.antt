@@ -98,7 +98,7 @@ module _ (w : Width) where
 
 module _ (z : ℤ) (p : SFits w32 z) where
   pub widened : to_z w64 (of_z w64 (to_z w32 (of_z w32 z))) ≡ z
-  widened = ap (λ y. to_z w64 (of_z w64 y)) (to_z-of_z p) ∙ to_z-of_z (sfits_widen tt p)
+  widened = ap (λ y. to_z w64 (of_z w64 y)) (to_z-of_z {w = w32} p) ∙ to_z-of_z {w = w64} (sfits_widen {w = w32} {w' = w64} (tt {0}) p)
 
   pub negated_fits : SFits w64 (neg_ℤ z)
   negated_fits = small_fits w64 (neg_ℤ z) (rw (abs_neg_ℤ z) (omega (arith, (Fits-nat_abs {w = w32} {w' = w32} {z = z} tt p).fits)))

@@ -1,4 +1,7 @@
 // The value of a claim's matrix at the counts of its final regions: bounds of its terms, the patterns of its sets, and the evaluation.
+
+#![tactic(auto)]
+
 ghost use Rattle.std.specs.Prelude.{◌≡◌, ◌<◌, ◌≤◌, eqb, length};
 ghost use Rattle.checker.specs.Words.{node_at, claim_of};
 ghost use Rattle.checker.specs.Meaning.{matrix};
