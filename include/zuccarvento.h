@@ -1,6 +1,6 @@
 /* Zuccarvento for C and C++: claim tables checked, reduced and decided, by functions that are proved to answer as their definitions say.
  *
- * The library is libexports.a (`rt staticlib exports` writes it to target/staticlib). It needs nothing but memcpy and memset, keeps no
+ * The library is libexports.a (`rt lib` in crates/exports writes it to out/ there). It needs nothing but memcpy and memset, keeps no
  * state, and takes no lock: calls from several threads do not meet.
  *
  * A slice is a pointer and the number of its elements. No words are altered but those of `out` and `row`, as said below. Whatever the
