@@ -1,5 +1,8 @@
 // The reader of solver texts: the words of the claim that a text was written from. It scans the text into words, and then lets the writer say
 // whether it takes them and would have written this text.
+
+#![tactic(auto)]
+
 ghost use Rattle.std.specs.Prelude.{◌≡◌, ◌++◌, map, ◌≤◌, length, drop};
 ghost use Rattle.checker.specs.Words.{words_of};
 ghost use Rattle.sentence.specs.Scan.{scan};
@@ -17,7 +20,7 @@ mod table; // the words of the claim that a text is scanned as
 const MOST_WORDS: usize = 3 * MAX_EMITTED_NODES + MAX_EMITTED_QUANTIFIERS + 4;
 
 // How many words were read, or a refusal.
-#[derive(Drop)]
+#[derive(Clone, Copy)]
 pub enum Read {
     Words(usize),
     Refused(Refusal),

@@ -13,7 +13,7 @@ use checker::Shape;
 const LINE: usize = 64;
 
 // The place to which a text is as it should be.
-#[derive(Drop)]
+#[derive(Clone, Copy)]
 pub enum Passed {
     To(usize),
     Differs,

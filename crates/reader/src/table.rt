@@ -54,7 +54,7 @@ fn put_node(words: &mut [i32], at: usize, node: Line) -> usize
 }
 
 // How many things a run has, and the place after it.
-#[derive(Drop)]
+#[derive(Clone, Copy)]
 pub struct Run {
     pub count: usize,
     pub next: usize,
