@@ -16,7 +16,7 @@ use Rattle.checker.specs.Sorts.{sets}
 use Rattle.checker.specs.Meaning.{TrueAt}
 use Rattle.checker.specs.Check.{check_of}
 use Rattle.decider.specs.declared.Decision.{Decision}
-use Rattle.decider.specs.declared.Decision.TheVariants.{True, False, Spent, Refused}
+use Rattle.decider.specs.declared.Decision.TheVariants.{True, False, Spent}
 use Rattle.decider.specs.Rule.{Ruling}
 use Rattle.decider.specs.Plan.{ruling}
 use Rattle.decider.specs.Threshold.{no_numbers}

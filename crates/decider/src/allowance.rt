@@ -2,7 +2,7 @@ ghost use Rattle.std.specs.Prelude.{◌≡◌, ◌+◌, ◌^◌, ◌<◌};
 ghost use Rattle.decider.specs.Answer.{later};
 
 // What is left of an allowance, and the steps that it has paid for.
-#[derive(Drop)]
+#[derive(Clone, Copy)]
 pub struct Allowance {
     pub left: u64,
     pub taken: u64,
@@ -23,7 +23,7 @@ impl Allowance {
 }
 
 // Whether the allowance sufficed, if so a truth, and the rest of the allowance.
-#[derive(Drop)]
+#[derive(Clone, Copy)]
 pub struct Reply {
     pub ended: bool,
     pub truth: bool,

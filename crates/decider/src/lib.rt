@@ -1,4 +1,7 @@
 // The decider: whether a claim is true at a size, by trying the splits of regions, within an allowance of steps.
+
+#![tactic(auto)]
+
 ghost use Rattle.std.specs.Prelude.{◌≡◌, ◌+◌, ◌^◌, ◌<◌, ◌≤◌, length};
 ghost use Rattle.checker.specs.declared.Checked.TheVariants.{Accepted};
 ghost use Rattle.checker.specs.Words.{claim_of};
