@@ -31,7 +31,7 @@ fn main(rt: HostRuntime) {
     let allowance_count = read_argument(&rt, 2, &mut allowance);
     // One byte more than an input text may have.
     let mut input = [0u8; 65536];
-    let Input::Bytes(count) = streams::read_input(&rt, &mut input) else {
+    let Input::Bytes(count) = streams::read_input(&mut rt.stdin(), &rt, &mut input) else {
         return;
     };
     let mut out = [0u8; 64];
@@ -41,5 +41,5 @@ fn main(rt: HostRuntime) {
         &input[..count],
         &mut out,
     );
-    streams::write_output(&rt, &out[..n]);
+    streams::write_output(&mut rt.stdout(), &rt, &out[..n]);
 }

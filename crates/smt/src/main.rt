@@ -6,10 +6,10 @@ use streams::Input;
 fn main(rt: HostRuntime) {
     // One byte more than an input text may have.
     let mut input = [0u8; 65536];
-    let Input::Bytes(count) = streams::read_input(&rt, &mut input) else {
+    let Input::Bytes(count) = streams::read_input(&mut rt.stdin(), &rt, &mut input) else {
         return;
     };
     let mut out = [0u8; 393216];
     let n = smt_text::answer_smt(&input[..count], &mut out);
-    streams::write_output(&rt, &out[..n]);
+    streams::write_output(&mut rt.stdout(), &rt, &out[..n]);
 }

@@ -1,10 +1,13 @@
-// A program's standard input, read whole, and its standard output.
+// A program's standard input, read whole, and its standard output. Both are passed in: what a reader or a writer over memory gives or gets
+// is proved, and a system's own streams are read and written by the same code.
 #![tactic(auto)]
 
-ghost use Rattle.streams.specs.Input.{Within};
+ghost use Rattle.std.specs.Prelude.{◌≡◌, ◌<◌, IsTrue, length};
+ghost use Rattle.std.specs.Io.KnownBytes.{Appends, IsAtEnd};
+ghost use Rattle.streams.specs.Input.{IsShort, Took, Within};
 
 use std::io;
-use std::io::Read;
+use std::io::{Read, Write};
 
 // As many bytes as that, or a read failed.
 #[derive(Clone, Copy)]
@@ -19,10 +22,12 @@ fn say(rt: &impl Eprint, stream: &str, error: &io::Error) {
 }
 
 // One read of standard input; no bytes are its end.
-fn read_some(rt: &(impl io::Input + Eprint), buf: &mut [u8]) -> Input
-    ensures { Within result buf.new }
+fn read_some<R: Read>(stdin: &mut R, rt: &impl Eprint, buf: &mut [u8]) -> Input
+    ensures within { Within result buf.new }
+    ensures bytes { Took (R.remaining stdin.old) (R.remaining stdin.new) result buf.new }
+    ensures end { result ≡ Input.Bytes 0 → 0 < length buf.old → IsAtEnd (R.remaining stdin.new) }
 {
-    match rt.reader().read(buf) {
+    match stdin.read(buf) {
         Ok(n) => Input::Bytes(n),
         Err(error) => {
             say(rt, "standard input", &error);
@@ -32,12 +37,14 @@ fn read_some(rt: &(impl io::Input + Eprint), buf: &mut [u8]) -> Input
 }
 
 // Standard input from its start on, until it ends or `buf` is full.
-pub fn read_input(rt: &(impl io::Input + Eprint), buf: &mut [u8]) -> Input
-    ensures { Within result buf.new }
+pub fn read_input<R: Read>(stdin: &mut R, rt: &impl Eprint, buf: &mut [u8]) -> Input
+    ensures within { Within result buf.new }
+    ensures bytes { Took (R.remaining stdin.old) (R.remaining stdin.new) result buf.new }
+    ensures end { IsShort result buf.new → IsAtEnd (R.remaining stdin.new) }
 {
     let mut done = 0;
     while done < buf.len() {
-        let Input::Bytes(more) = read_some(rt, &mut buf[done..]) else {
+        let Input::Bytes(more) = read_some(stdin, rt, &mut buf[done..]) else {
             return Input::Failed;
         };
         if more == 0 {
@@ -48,8 +55,15 @@ pub fn read_input(rt: &(impl io::Input + Eprint), buf: &mut [u8]) -> Input
     Input::Bytes(done)
 }
 
-pub fn write_output(rt: &(impl Print + Eprint), bytes: &[u8]) {
-    if let Err(error) = rt.write_all(bytes) {
-        say(rt, "standard output", &error);
+// Puts all of the bytes to standard output, and returns whether that was done.
+pub fn write_output<W: Write>(stdout: &mut W, rt: &impl Eprint, bytes: &[u8]) -> bool
+    ensures { IsTrue result → Appends (W.contents stdout.old) (W.contents stdout.new) bytes.now }
+{
+    match stdout.write_all(bytes) {
+        Ok(()) => true,
+        Err(error) => {
+            say(rt, "standard output", &error);
+            false
+        }
     }
 }
