@@ -15,13 +15,19 @@ import sys
 
 LETTER = r"[\w'\-]"
 MARKS = r"(?:(?:abbrev|unfoldable|pub|pattern|axiom|record|data|ruleset|syntax) +)*"
-TOP = re.compile(r"^" + MARKS + r"([^\s:(){}=]+) +(?:[({].*[)}] *)?: ")
-FIELD = re.compile(r"^ +(?:pub +)?([^\s:(){}=]+) +: ")
+NAMES = r"([^\s:(){}=,;.]+(?: [^\s:(){}=,;.]+)*)"
+TOP = re.compile(r"^" + MARKS + NAMES + r" +(?:[({].*[)}] *)?: ")
+FIELD = re.compile(r"^ +(?:pub +)?" + NAMES + r" +: ")
 MADE = ("Proof.antt", "Answers.antt", "Invariants.antt")
 # What may stand behind a dash: a function or an operator. Before it stands a definition of specs/, or again one of these.
 BEHIND = {"length", "append", "take", "drop", "map", "replicate", "get_or", "suc", "zero", "cons", "snoc", "not", "and", "or", "xor", "minus", "join", "split"}
 # Names whose turn by rule would not read well, or would fall on another name.
 BY_HAND = {"tab-getD": "tab-get_or"}
+
+
+def is_made(path):
+    """Whether the file is a function's proof, and not a lemma file, which stands right in proofs/."""
+    return os.path.basename(path) in MADE and os.path.basename(os.path.dirname(path)) != "proofs"
 
 
 def files(root):
@@ -38,13 +44,13 @@ def declared(root):
     for path in files(root):
         if not path.endswith(".antt"):
             continue
-        made = os.path.basename(path) in MADE
+        made = is_made(path)
         for line in open(path, encoding="utf-8"):
             m = TOP.match(line) or FIELD.match(line)
-            if m:
-                (others if made else every).add(m.group(1))
+            for name in m.group(1).split() if m else []:
+                (others if made else every).add(name)
                 if "/specs/" in path and not made:
-                    specs.add(m.group(1))
+                    specs.add(name)
     return every, specs, others
 
 
@@ -109,7 +115,7 @@ def functions(root):
 
 
 def respell(text, new, pattern, path, code):
-    made = os.path.basename(path) in MADE
+    made = is_made(path)
 
     def word(m):
         name = m.group(0)
