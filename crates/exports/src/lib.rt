@@ -1,4 +1,6 @@
 // The checker, the reducer and the decider for C: an answer is put into a lent row of seven numbers (zuccarvento.h).
+#![tactic(auto)]
+
 ghost use Rattle.std.specs.Prelude.{◌≡◌, length};
 ghost use Rattle.checker.specs.Check.{check_of};
 ghost use Rattle.reducer.specs.Reduced.{reduced_of, out_after};
