@@ -1,4 +1,7 @@
 // Text to text: everything that the programs print.
+
+#![tactic(auto)]
+
 ghost use Rattle.std.specs.Prelude.{◌≡◌};
 ghost use Rattle.decimal.specs.Reading.{scanned_of, onto};
 ghost use Rattle.text.specs.Answer.{input_words, answered, reduce_words, reduce_text, decide_words, decide_text, Printed};
