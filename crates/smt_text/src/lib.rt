@@ -1,4 +1,7 @@
 // Text to text: everything that the program `smt` prints.
+
+#![tactic(auto)]
+
 ghost use Rattle.std.specs.Prelude.{◌≡◌};
 ghost use Rattle.checker.specs.declared.Dialect.TheVariants.{Emitted};
 ghost use Rattle.checker.specs.declared.Checked.TheVariants.{Accepted};
