@@ -4,7 +4,7 @@ use mathlib.Core.List.{[], ◌∷◌}
 use Prim.Native.Nat.{◌<◌}
 use native.Mathlib.Numerals.{add-one}
 use native.Mathlib.Omega.{arith}
-use borrow.Author.Rules.{sfits_of}
+use borrow.Author.Rules.{rules, sfits_of}
 use lib.IntN.{pos}
 use lib.ListN.{length, get_or, drop_of_length-le}
 use lib.Seq.{drop-cons}
@@ -26,7 +26,7 @@ loop-i-preserved c =
     let l = c.loop-i in
     let words = c.args.words.now in
     let h : l.i < length words = omega arith in
-    (omega arith, rw (to_z-of_z {w = w32} {z = get_or words l.i (pos 0)} (sfits_of c.out-1.given), add-one l.i) (rest_step {us = _ ∷ []} (drop-cons words l.i (pos 0) h) l.invariant.1 (record { words = refl; after = omega arith })))
+    (omega arith, rw (to_z-of_z {w = w32} {z = get_or words l.i (pos 0)} (sfits_of (search rules)), add-one l.i) (rest_step {us = _ ∷ []} (drop-cons words l.i (pos 0) h) l.invariant.1 (record { words = refl; after = omega arith })))
 
 pub shape_of-out : goal.shape_of-out
 shape_of-out c =

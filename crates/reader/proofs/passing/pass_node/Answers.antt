@@ -1,7 +1,7 @@
 -- `reader::passing::pass_node` meets its contract. Assumes nothing.
 use mathlib.Core.Path.{sym, ap, ◌∙◌}
 use Prim.Native.Nat.{◌+◌, ◌*◌}
-use borrow.Author.Rules.{sfits_of}
+use borrow.Author.Rules.{rules, sfits_of}
 use mir.Syntax.{w32}
 use mir.Facts.{to_z-of_z}
 use Rattle.checker.specs.Words.{word}
@@ -14,6 +14,6 @@ pub returns : goal.returns
 returns c =
     let a = c.args in
     let ws = a.words.now in
-    let x = to_z-of_z {w = w32} {z = word ws (3 * a.i + 1)} (sfits_of c.pass_line-arg-1.given) in
-    let y = to_z-of_z {w = w32} {z = word ws (3 * a.i + 2)} (sfits_of c.pass_line-arg-2-1.given) in
+    let x = to_z-of_z {w = w32} {z = word ws (3 * a.i + 1)} (sfits_of (search rules)) in
+    let y = to_z-of_z {w = w32} {z = word ws (3 * a.i + 2)} (sfits_of (search rules)) in
     c.pass_line.ensures ∙ ap (λ n. passed a.text.now a.from (node_line a.i n)) (sym (node_is ws a.i c.word-kind.ensures x y))

@@ -3,7 +3,7 @@ use mathlib.Core.Path.{◌≡◌, ap, ◌∙◌}
 use Prim.Native.Nat.{◌+◌, ◌*◌, ◌<◌}
 use native.Mathlib.Nat.{zero-add, lt_of_le_of_lt}
 use native.Mathlib.Omega.{arith}
-use borrow.Author.Rules.{sfits_of}
+use borrow.Author.Rules.{rules, sfits_of}
 use lib.Dec.{lit<}
 use lib.ListN.{length, drop, length-append}
 use mir.Syntax.{w32}
@@ -68,8 +68,8 @@ loop-i-preserved c =
     let loop = c.loop-i in
     let ws = c.args.words.now in
     let less : loop.i < length (claim_of ws).nodes = omega (arith, c.requires.nodes, c.loop-i-test.true) in
-    let x = to_z-of_z {w = w32} {z = word ws (3 * loop.i + 1)} (sfits_of c.line_length-arg-1.given) in
-    let y = to_z-of_z {w = w32} {z = word ws (3 * loop.i + 2)} (sfits_of c.line_length-arg-in-loop-i-1.given) in
+    let x = to_z-of_z {w = w32} {z = word ws (3 * loop.i + 1)} (sfits_of (search rules)) in
+    let y = to_z-of_z {w = w32} {z = word ws (3 * loop.i + 2)} (sfits_of (search rules)) in
     let line = c.line_length-total.ensures in
     let node = node_is ws loop.i c.word-kind.ensures x y in
     let here : c.line_length-total.result ≡ length (node_line loop.i (node_at ws loop.i)) = rw node line.0 in
