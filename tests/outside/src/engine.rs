@@ -184,14 +184,20 @@ pub fn decide(words: &[i32], size: u32, allowance: u64) -> Row {
     whole(decide_into(words, (size, allowance), ROW, ROW))
 }
 
-/// The product's programs: each is `NAME/out/NAME` in the folder of its crates.
-pub struct Programs {
-    pub folder: PathBuf,
+/// Programs that are run by name.
+pub enum Programs {
+    /// The product's: each is `NAME/out/NAME` in the folder of its crates.
+    Product(PathBuf),
+    /// Others, found by the shell's path.
+    Installed,
 }
 
 impl Programs {
     fn path(&self, program: &str) -> PathBuf {
-        self.folder.join(program).join("out").join(program)
+        match self {
+            Programs::Product(crates) => crates.join(program).join("out").join(program),
+            Programs::Installed => PathBuf::from(program),
+        }
     }
 
     /// What a program prints for arguments and a text, or how it ended if it

@@ -31,7 +31,7 @@ fn main() -> std::process::ExitCode {
     let mut tally = Tally::of_groups_with(&part);
     without_product(&mut tally);
     through_library(&mut tally);
-    through_programs(&mut tally, &Programs { folder: folder.into() });
+    through_programs(&mut tally, &Programs::Product(folder.into()));
     match tally.finish() {
         true => std::process::ExitCode::SUCCESS,
         false => std::process::ExitCode::FAILURE,

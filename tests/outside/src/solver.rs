@@ -1,8 +1,6 @@
 //! How the solvers z3 and cvc5 are asked: all questions about one claim in
 //! one process, and each from nothing.
 
-use std::path::PathBuf;
-
 use outside::solver_text::ENDING;
 
 use crate::engine::Programs;
@@ -43,8 +41,8 @@ pub fn ask(solver: &str, text: &str) -> Result<Answers, String> {
     let Some(asserted) = text.strip_suffix(ENDING) else {
         return Err(format!("no text for a solver: {text:?}"));
     };
-    let programs = Programs { folder: PathBuf::new() };
-    let printed = programs.run(solver, &arguments(solver), script(asserted).as_bytes())?;
+    let printed =
+        Programs::Installed.run(solver, &arguments(solver), script(asserted).as_bytes())?;
     answers(&printed)
 }
 
