@@ -14,7 +14,7 @@ use Rattle.checker.specs.declared.Dialect.TheVariants.{SetClaims}
 use Rattle.checker.specs.declared.Shape.{Shape}
 use Rattle.checker.specs.declared.Sort.TheVariants.{AFormula}
 use Rattle.checker.specs.declared.Checked.TheVariants.{Accepted}
-use Rattle.checker.specs.Claim.{Node, unknown, Quantifier, intQ, setQ, countQ, Claim}
+use Rattle.checker.specs.Claim.{Node, unknown, Quantifier, int_q, set_q, count_q, Claim}
 use Rattle.checker.specs.Kinds.{number, sort_of, range_of, over_sets}
 use Rattle.checker.specs.Words.{word, word_at, nodes_in, quantifiers_in, claim_of, fields_of, node_words, nodes_words, quantifier_word, trailer, words_of}
 use Rattle.checker.specs.Sorts.{sort, is_set_q, WellSorted, sets}
@@ -108,7 +108,7 @@ module _ (d : Dialect) (c : Claim) where
   unfolding word_at node_words
   b_at i h = ap number (field i h 2 (omega arith))
 
-  quantifier_at_lem : (i : ℕ) → i < q → word ws (3 * n + i) ≡ quantifier_word (get_or c.quantifiers i (intQ true))
+  quantifier_at_lem : (i : ℕ) → i < q → word ws (3 * n + i) ≡ quantifier_word (get_or c.quantifiers i (int_q true))
   unfolding words_of
   quantifier_at_lem i h =
       ap (λ k. word ws (k + i)) (sym (nodes_words-length c.nodes))
@@ -116,33 +116,33 @@ module _ (d : Dialect) (c : Claim) where
       ∙ get_or-append (map quantifier_word c.quantifiers) (trailer c) (pos 0) i (rw (length-map c.quantifiers quantifier_word) h)
       ∙ mapped c.quantifiers i h
     where
-      mapped : (qs : List Quantifier) (i : ℕ) → i < length qs → get_or (map quantifier_word qs) i (pos 0) ≡ quantifier_word (get_or qs i (intQ true))
+      mapped : (qs : List Quantifier) (i : ℕ) → i < length qs → get_or (map quantifier_word qs) i (pos 0) ≡ quantifier_word (get_or qs i (int_q true))
       mapped [] i h = absurd (omega arith)
       mapped (x ∷ qs) zero h = refl
       mapped (x ∷ qs) (suc i) h = mapped qs i (omega arith)
 
   word_range : (x : Quantifier) → range_of (number (quantifier_word x)) ≡ range (is_set_q x)
   unfolding range_of number
-  word_range (intQ true) = refl
-  word_range (intQ false) = refl
-  word_range (setQ true) = refl
-  word_range (setQ false) = refl
-  word_range (countQ true) = refl
-  word_range (countQ false) = refl
+  word_range (int_q true) = refl
+  word_range (int_q false) = refl
+  word_range (set_q true) = refl
+  word_range (set_q false) = refl
+  word_range (count_q true) = refl
+  word_range (count_q false) = refl
 
   known_range : (b : Bool) → is_known (range b) ≡ true
   known_range true = refl
   known_range false = refl
 
-  range_at : (i : ℕ) → i < q → range_of (quantifier_kind ws n i) ≡ range (is_set_q (get_or c.quantifiers i (intQ true)))
+  range_at : (i : ℕ) → i < q → range_of (quantifier_kind ws n i) ≡ range (is_set_q (get_or c.quantifiers i (int_q true)))
   unfolding word_at
-  range_at i h = ap (λ z. range_of (number z)) (quantifier_at_lem i h) ∙ word_range (get_or c.quantifiers i (intQ true))
+  range_at i h = ap (λ z. range_of (number z)) (quantifier_at_lem i h) ∙ word_range (get_or c.quantifiers i (int_q true))
 
   sets_in_lem : count (binds_set (table_at ws n q)) q ≡ sets c.quantifiers
   unfolding binds_set table_at
   sets_in_lem =
       counted (binds_set (table_at ws n q)) c.quantifiers
-      (λ i h. ap over_sets (range_at i h) ∙ over_range (is_set_q (get_or c.quantifiers i (intQ true))))
+      (λ i h. ap over_sets (range_at i h) ∙ over_range (is_set_q (get_or c.quantifiers i (int_q true))))
 
   module _ (limited : LimitedAs d c) (taken : Taken d c) (sorted : WellSorted c) where
     node_passes : (i : ℕ) → i < n → node_good (table_at ws n q) i ≡ true
@@ -163,7 +163,7 @@ module _ (d : Dialect) (c : Claim) where
     unfolding word_at
     quantifier_passes i h =
         ap (λ z. takes_quantifier d (number z)) (quantifier_at_lem i h)
-        ∙ all_at (λ x. takes_quantifier d (number (quantifier_word x))) c.quantifiers taken.quantifiers (intQ true) i h
+        ∙ all_at (λ x. takes_quantifier d (number (quantifier_word x))) c.quantifiers taken.quantifiers (int_q true) i h
 
     root_passes : root_good (table_at ws n q) ≡ true
     unfolding root_good child_sort table_at
@@ -188,7 +188,7 @@ module _ (d : Dialect) (c : Claim) where
           table = record {
             few_sets = omega (arith, sets_in_lem, limited.few_sets);
             quantifier_taken_lem = quantifier_passes;
-            quantifier_known = λ i h. ap is_known (range_at i h) ∙ known_range (is_set_q (get_or c.quantifiers i (intQ true)));
+            quantifier_known = λ i h. ap is_known (range_at i h) ∙ known_range (is_set_q (get_or c.quantifiers i (int_q true)));
             kind_taken = kind_passes;
             node_good_lem = node_passes;
             root_good_lem = root_passes;

@@ -9,7 +9,7 @@ use lib.IntN.{ℤ}
 use lib.ListN.{length, get_or}
 use Rattle.checker.specs.declared.Shape.{Shape}
 use Rattle.checker.specs.declared.Checked.TheVariants.{Accepted}
-use Rattle.checker.specs.Claim.{unknown, intQ}
+use Rattle.checker.specs.Claim.{unknown, int_q}
 use Rattle.checker.specs.Words.{nodes_in, quantifiers_in, node_at, quantifier_at, claim_of, words_of}
 use Rattle.checker.specs.Sorts as Sorts
 use Rattle.checker.specs.Sorts.{WellSorted}
@@ -19,9 +19,9 @@ use Rattle.checker.proofs.Tab.{tab_at, tab-length}
 use Rattle.checker.proofs.Words.{words-length}
 
 module _ (ws : List ℤ) where
-  pub node_count : length (claim_of ws).nodes ≡ nodes_in ws
+  pub node_count_lem : length (claim_of ws).nodes ≡ nodes_in ws
   unfolding claim_of
-  node_count = tab-length (nodes_in ws) (node_at ws)
+  node_count_lem = tab-length (nodes_in ws) (node_at ws)
 
   pub quantifier_count : length (claim_of ws).quantifiers ≡ quantifiers_in ws
   unfolding claim_of
@@ -29,11 +29,11 @@ module _ (ws : List ℤ) where
 
   pub node_at_lem : (i : ℕ) → i < length (claim_of ws).nodes → get_or (claim_of ws).nodes i unknown ≡ node_at ws i
   unfolding claim_of
-  node_at_lem i h = tab_at (nodes_in ws) (node_at ws) unknown i (omega (arith, node_count))
+  node_at_lem i h = tab_at (nodes_in ws) (node_at ws) unknown i (omega (arith, node_count_lem))
 
-  pub quantifier_in : (j : ℕ) → j < length (claim_of ws).quantifiers → get_or (claim_of ws).quantifiers j (intQ true) ≡ quantifier_at ws (nodes_in ws) j
+  pub quantifier_in : (j : ℕ) → j < length (claim_of ws).quantifiers → get_or (claim_of ws).quantifiers j (int_q true) ≡ quantifier_at ws (nodes_in ws) j
   unfolding claim_of
-  quantifier_in j h = tab_at (quantifiers_in ws) (quantifier_at ws (nodes_in ws)) (intQ true) j (omega (arith, quantifier_count))
+  quantifier_in j h = tab_at (quantifiers_in ws) (quantifier_at ws (nodes_in ws)) (int_q true) j (omega (arith, quantifier_count))
 
 -- ---- accepted words
 

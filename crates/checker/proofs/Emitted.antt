@@ -8,7 +8,7 @@ use native.Mathlib.Omega.{arith}
 use lib.ListN.{length}
 use Rattle.checker.specs.declared.Dialect.TheVariants.{Emitted}
 use Rattle.checker.specs.declared.Checked.TheVariants.{Accepted}
-use Rattle.checker.specs.Claim.{Quantifier, intQ, setQ, countQ, Claim}
+use Rattle.checker.specs.Claim.{Quantifier, int_q, set_q, count_q, Claim}
 use Rattle.checker.specs.Kinds.{number, range_of}
 use Rattle.checker.specs.Words.{words_of}
 use Rattle.checker.specs.Sorts.{WellSorted, sets}
@@ -20,19 +20,19 @@ use Rattle.checker.proofs.Accepted.{claim_accepted_as}
 pub no_sets : (qs : List Quantifier) → QuantifiersTaken Emitted qs → sets qs ≡ 0
 unfolding sets range_of number
 no_sets [] t = refl
-no_sets (intQ some ∷ qs) (e, es) = no_sets qs es
-no_sets (setQ true ∷ qs) (e, es) = absurd (false≢true e)
-no_sets (setQ false ∷ qs) (e, es) = absurd (false≢true e)
-no_sets (countQ some ∷ qs) (e, es) = no_sets qs es
+no_sets (int_q some ∷ qs) (e, es) = no_sets qs es
+no_sets (set_q true ∷ qs) (e, es) = absurd (false≢true e)
+no_sets (set_q false ∷ qs) (e, es) = absurd (false≢true e)
+no_sets (count_q some ∷ qs) (e, es) = no_sets qs es
 
 pub without_sets : (qs : List Quantifier) → sets qs ≡ 0 → QuantifiersTaken Emitted qs
 unfolding sets range_of number
 without_sets [] e = tt
-without_sets (intQ true ∷ qs) e = (refl, without_sets qs e)
-without_sets (intQ false ∷ qs) e = (refl, without_sets qs e)
-without_sets (setQ some ∷ qs) e = absurd (omega arith)
-without_sets (countQ true ∷ qs) e = (refl, without_sets qs e)
-without_sets (countQ false ∷ qs) e = (refl, without_sets qs e)
+without_sets (int_q true ∷ qs) e = (refl, without_sets qs e)
+without_sets (int_q false ∷ qs) e = (refl, without_sets qs e)
+without_sets (set_q some ∷ qs) e = absurd (omega arith)
+without_sets (count_q true ∷ qs) e = (refl, without_sets qs e)
+without_sets (count_q false ∷ qs) e = (refl, without_sets qs e)
 
 pub emitted_accepted : (c : Claim) → WellSorted c → length c.nodes ≤ most_nodes Emitted → length c.quantifiers ≤ most_quantifiers Emitted
     → KindsTaken Emitted c.nodes → sets c.quantifiers ≡ 0 → check_as Emitted (words_of c) ≡ Accepted (claim_shape c)

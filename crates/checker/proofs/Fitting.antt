@@ -6,7 +6,7 @@ use Prim.Native.Nat.{ℕ, zero, suc, ◌+◌, ◌≤◌, ◌<◌}
 use native.Mathlib.Omega.{arith}
 use lib.ListN.{length, get_or, take}
 use lib.Seq.{take-suc, take-length}
-use Rattle.checker.specs.Claim.{Node, set_var, empty, whole, union, inter, compl, num_var, const, maxc, sum, diff, multiple, card, equal, less, divided, setEqual, subset, conj, disj, neg, unknown, Quantifier, intQ, setQ, countQ}
+use Rattle.checker.specs.Claim.{Node, set_var, empty, whole, union, inter, compl, num_var, const, maxc, sum, diff, multiple, card, equal, less, divided, set_equal, subset, conj, disj, neg, unknown, Quantifier, int_q, set_q, count_q}
 use Rattle.checker.specs.Kinds.{sort_of}
 use Rattle.checker.specs.Words.{fields_of}
 use Rattle.checker.specs.Sorts.{sort, is_set_q, Fits, AllFit, sets}
@@ -33,7 +33,7 @@ sort_kind (card a) = refl
 sort_kind (equal a b) = refl
 sort_kind (less a b) = refl
 sort_kind (divided c b) = refl
-sort_kind (setEqual a b) = refl
+sort_kind (set_equal a b) = refl
 sort_kind (subset a b) = refl
 sort_kind (conj a b) = refl
 sort_kind (disj a b) = refl
@@ -54,21 +54,21 @@ fits_at qs ns f i h = fits_after qs [] ns f i h
 
 sets-snoc : (qs : List Quantifier) (q : Quantifier) → sets (qs ++ q ∷ []) ≡ sets qs + cond (is_set_q q) 1 0
 unfolding sets
-sets-snoc [] (intQ some) = refl
-sets-snoc [] (setQ some) = refl
-sets-snoc [] (countQ some) = refl
-sets-snoc (intQ some ∷ qs) q = sets-snoc qs q
-sets-snoc (setQ some ∷ qs) q = omega (arith, sets-snoc qs q)
-sets-snoc (countQ some ∷ qs) q = sets-snoc qs q
+sets-snoc [] (int_q some) = refl
+sets-snoc [] (set_q some) = refl
+sets-snoc [] (count_q some) = refl
+sets-snoc (int_q some ∷ qs) q = sets-snoc qs q
+sets-snoc (set_q some ∷ qs) q = omega (arith, sets-snoc qs q)
+sets-snoc (count_q some ∷ qs) q = sets-snoc qs q
 
 -- a test that tells set quantifiers counts the sets
-module _ (p : ℕ → Bool) (qs : List Quantifier) (h : (i : ℕ) → i < length qs → p i ≡ is_set_q (get_or qs i (intQ true))) where
+module _ (p : ℕ → Bool) (qs : List Quantifier) (h : (i : ℕ) → i < length qs → p i ≡ is_set_q (get_or qs i (int_q true))) where
   upto : (k : ℕ) → k ≤ length qs → count p k ≡ sets (take k qs)
   unfolding count sets
   upto zero l = refl
   upto (suc k) l =
       ap₂ (λ x b. x + cond b 1 0) (upto k (omega arith)) (h k (omega arith))
-      ∙ sym (ap sets (take-suc qs k (intQ true) (omega arith)) ∙ sets-snoc (take k qs) (get_or qs k (intQ true)))
+      ∙ sym (ap sets (take-suc qs k (int_q true) (omega arith)) ∙ sets-snoc (take k qs) (get_or qs k (int_q true)))
 
   pub counted : count p (length qs) ≡ sets qs
   counted = upto (length qs) (omega arith) ∙ ap sets (take-length qs)

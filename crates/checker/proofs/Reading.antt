@@ -12,7 +12,7 @@ use lib.Seq.{drop-cons}
 use Rattle.checker.specs.declared.Dialect.{Dialect}
 use Rattle.checker.specs.declared.Sort.TheVariants.{AFormula, NoSort}
 use Rattle.checker.specs.declared.Need.{Need}
-use Rattle.checker.specs.Claim.{Node, unknown, Quantifier, intQ}
+use Rattle.checker.specs.Claim.{Node, unknown, Quantifier, int_q}
 use Rattle.checker.specs.Kinds.{no_number, number, row_of, sort_of, range_of, is_formula, over_sets, quantifier_of}
 use Rattle.checker.specs.Words.{word, word_at, tab, root_in, nodes_in, quantifiers_in, node_at, quantifier_at, claim_of, fields_of, node_words, nodes_words, quantifier_word, mark, words_of}
 use Rattle.checker.specs.Sorts.{sort, is_set_q, Fits, AllFit, WellSorted, sets}
@@ -82,11 +82,11 @@ module _ (d : Dialect) (ws : List ℤ) (good : Good d ws (nodes_in ws) (quantifi
   unfolding table_at word_at
   known i h = good.table.quantifier_known i h
 
-  range_at : (i : ℕ) → i < length qs → range_of (quantifier_kind ws n i) ≡ range (is_set_q (get_or qs i (intQ true)))
+  range_at : (i : ℕ) → i < length qs → range_of (quantifier_kind ws n i) ≡ range (is_set_q (get_or qs i (int_q true)))
   unfolding word_at
   range_at i h =
       let l : i < q = omega (arith, tab-length q (quantifier_at ws n)) in
-      range_is (word ws (3 * n + i)) (known i l) ∙ ap (λ x. range (is_set_q x)) (sym (tab_at q (quantifier_at ws n) (intQ true) i l))
+      range_is (word ws (3 * n + i)) (known i l) ∙ ap (λ x. range (is_set_q x)) (sym (tab_at q (quantifier_at ws n) (int_q true) i l))
 
   -- ---- nodes
 
@@ -215,7 +215,7 @@ module _ (d : Dialect) (ws : List ℤ) (good : Good d ws (nodes_in ws) (quantifi
   unfolding claim_of binds_set table_at
   sets_counted =
       ap (count (binds_set (table_at ws n q))) (sym (tab-length q (quantifier_at ws n)))
-      ∙ counted (binds_set (table_at ws n q)) qs (λ i h. ap over_sets (range_at i h) ∙ over_range (is_set_q (get_or qs i (intQ true))))
+      ∙ counted (binds_set (table_at ws n q)) qs (λ i h. ap over_sets (range_at i h) ∙ over_range (is_set_q (get_or qs i (int_q true))))
 
   -- ---- the kinds
 

@@ -15,7 +15,7 @@ use Rattle.checker.specs.declared.Range.{Range}
 use Rattle.checker.specs.declared.Range.TheVariants.{Sets, Numbers, NoRange}
 use Rattle.checker.specs.declared.Need.{Need}
 use Rattle.checker.specs.declared.Need.TheVariants.{Unused, SetChild, TermChild, FormulaChild, SetName, NumberName}
-use Rattle.checker.specs.Claim.{Node, set_var, empty, whole, union, inter, compl, num_var, const, maxc, sum, diff, multiple, card, equal, less, divided, setEqual, subset, conj, disj, neg, unknown, Quantifier, intQ}
+use Rattle.checker.specs.Claim.{Node, set_var, empty, whole, union, inter, compl, num_var, const, maxc, sum, diff, multiple, card, equal, less, divided, set_equal, subset, conj, disj, neg, unknown, Quantifier, int_q}
 use Rattle.checker.specs.Kinds.{no_number, number, Entry, sort_table, entry_in, row_of, node_of, sort_of, range_of, is_set, is_term, is_formula, over_sets, over_numbers}
 use Rattle.checker.specs.Words.{fields_of, node_words}
 use Rattle.checker.specs.Sorts.{sort, Is, is_set_q, Binds, Fits}
@@ -90,7 +90,7 @@ module _ (qs : List Quantifier) (done : List Node) (kind quantifier : ℕ → �
 
   module _ (small : length done ≤ no_number) (few : length qs ≤ no_number)
       (sorts : (v : ℕ) → v < length done → sort (get_or done v unknown) ≡ sort_of (kind v))
-      (binds : (v : ℕ) → v < length qs → range_of (quantifier v) ≡ range (is_set_q (get_or qs v (intQ true)))) where
+      (binds : (v : ℕ) → v < length qs → range_of (quantifier v) ≡ range (is_set_q (get_or qs v (int_q true)))) where
     -- ---- from words to the node
 
     unused : (z : ℤ) → Serves Unused z → z ≡ pos 0
@@ -223,7 +223,7 @@ module _ (qs : List Quantifier) (done : List Node) (kind quantifier : ℕ → �
     fits_served (equal a b) (f, g) = (served_child ATerm is_term refl a f, served_child ATerm is_term refl b g)
     fits_served (less a b) (f, g) = (served_child ATerm is_term refl a f, served_child ATerm is_term refl b g)
     fits_served (divided c b) f = (refl, served_child ATerm is_term refl b f)
-    fits_served (setEqual a b) (f, g) = (served_child ASet is_set refl a f, served_child ASet is_set refl b g)
+    fits_served (set_equal a b) (f, g) = (served_child ASet is_set refl a f, served_child ASet is_set refl b g)
     fits_served (subset a b) (f, g) = (served_child ASet is_set refl a f, served_child ASet is_set refl b g)
     fits_served (conj a b) (f, g) = (served_child AFormula is_formula refl a f, served_child AFormula is_formula refl b g)
     fits_served (disj a b) (f, g) = (served_child AFormula is_formula refl a f, served_child AFormula is_formula refl b g)

@@ -8,7 +8,7 @@ use native.Mathlib.Omega.{arith}
 use lib.IntN.{ℤ, pos}
 use lib.ListN.{length, get_or, length-append, length-map}
 use lib.Seq.{get_or-append-add}
-use Rattle.checker.specs.Claim.{Node, Quantifier, Claim, set_var, empty, whole, union, inter, compl, num_var, const, maxc, sum, diff, multiple, card, equal, less, divided, setEqual, subset, conj, disj, neg, unknown, intQ, setQ, countQ}
+use Rattle.checker.specs.Claim.{Node, Quantifier, Claim, set_var, empty, whole, union, inter, compl, num_var, const, maxc, sum, diff, multiple, card, equal, less, divided, set_equal, subset, conj, disj, neg, unknown, int_q, set_q, count_q}
 use Rattle.checker.specs.Kinds.{number, node_of, quantifier_of}
 use Rattle.checker.specs.Words.{word, word_at, tab, root_in, nodes_in, quantifiers_in, node_at, quantifier_at, claim_of, fields_of, node_words, nodes_words, quantifier_word, mark, trailer, words_of}
 
@@ -48,7 +48,7 @@ node_back (card a) = refl
 node_back (equal a b) = refl
 node_back (less a b) = refl
 node_back (divided c b) = refl
-node_back (setEqual a b) = refl
+node_back (set_equal a b) = refl
 node_back (subset a b) = refl
 node_back (conj a b) = refl
 node_back (disj a b) = refl
@@ -82,12 +82,12 @@ quantifiers_back [] rest = refl
 quantifiers_back (q ∷ qs) rest = ap₂ (λ x xs. x ∷ xs) (go q) (quantifiers_back qs rest)
   where
     go : (q : Quantifier) → quantifier_of (quantifier_word q) ≡ q
-    go (intQ true) = refl
-    go (intQ false) = refl
-    go (setQ true) = refl
-    go (setQ false) = refl
-    go (countQ true) = refl
-    go (countQ false) = refl
+    go (int_q true) = refl
+    go (int_q false) = refl
+    go (set_q true) = refl
+    go (set_q false) = refl
+    go (count_q true) = refl
+    go (count_q false) = refl
 
 pub claim_is : {a b : Claim} → a.nodes ≡ b.nodes → a.quantifiers ≡ b.quantifiers → a.root ≡ b.root → a ≡ b
 claim_is p q r = λ i. record { nodes = p i; quantifiers = q i; root = r i }

@@ -17,14 +17,14 @@ pub data Node : Type 0 where
   card : (a : ℕ) → Node
   equal less : (a b : ℕ) → Node
   divided : (c : ℤ) (b : ℕ) → Node
-  setEqual subset : (a b : ℕ) → Node
+  set_equal subset : (a b : ℕ) → Node
   conj disj : (a b : ℕ) → Node
   neg : (a : ℕ) → Node
   unknown : Node
 
 -- A quantifier over integers, sets or counts: an exists if `some` is true, and a for-all if not.
 pub data Quantifier : Type 0 where
-  intQ setQ countQ : (some : Bool) → Quantifier
+  int_q set_q count_q : (some : Bool) → Quantifier
 
 -- Quantifiers stand outermost first; `root` is a node's number.
 pub record Claim : Type 0 where

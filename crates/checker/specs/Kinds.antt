@@ -8,7 +8,7 @@ use Rattle.checker.specs.declared.Range.{Range}
 use Rattle.checker.specs.declared.Range.TheVariants.{Sets, Numbers, NoRange}
 use Rattle.checker.specs.declared.Need.{Need}
 use Rattle.checker.specs.declared.Need.TheVariants.{Unused, Word, SetChild, TermChild, FormulaChild, SetName, NumberName, Never}
-use Rattle.checker.specs.Claim.{Node, set_var, empty, whole, union, inter, compl, num_var, const, maxc, sum, diff, multiple, card, equal, less, divided, setEqual, subset, conj, disj, neg, unknown, Quantifier, intQ, setQ, countQ}
+use Rattle.checker.specs.Claim.{Node, set_var, empty, whole, union, inter, compl, num_var, const, maxc, sum, diff, multiple, card, equal, less, divided, set_equal, subset, conj, disj, neg, unknown, Quantifier, int_q, set_q, count_q}
 
 -- ---- words as numbers
 
@@ -52,7 +52,7 @@ sort_table =
     ∷ row 20 TermChild TermChild (λ a b. equal (number a) (number b))
     ∷ row 21 TermChild TermChild (λ a b. less (number a) (number b))
     ∷ row 22 Word TermChild (λ a b. divided a (number b))
-    ∷ row 23 SetChild SetChild (λ a b. setEqual (number a) (number b))
+    ∷ row 23 SetChild SetChild (λ a b. set_equal (number a) (number b))
     ∷ row 24 SetChild SetChild (λ a b. subset (number a) (number b))
     ∷ row 25 FormulaChild FormulaChild (λ a b. conj (number a) (number b))
     ∷ row 26 FormulaChild FormulaChild (λ a b. disj (number a) (number b))
@@ -112,7 +112,7 @@ range_of k = get_or ranges k NoRange
 -- The quantifier that a word stands for; what is no kind reads as an exists over integers.
 unfoldable pub quantifier_of : ℤ → Quantifier
 quantifier_of word =
-    get_or (intQ true ∷ intQ true ∷ intQ false ∷ setQ true ∷ setQ false ∷ countQ true ∷ countQ false ∷ []) (number word) (intQ true)
+    get_or (int_q true ∷ int_q true ∷ int_q false ∷ set_q true ∷ set_q false ∷ count_q true ∷ count_q false ∷ []) (number word) (int_q true)
 
 abbrev pub over_sets : Range → Bool
 over_sets Sets = true

@@ -3,7 +3,7 @@
 use Rattle.std.specs.Prelude.{◌≡◌, Bool, true, false, not, cond, ◌&&◌, ◌||◌, List, [], ◌∷◌, ◌++◌, ℕ, zero, suc, ◌+◌, ◌%◌, ◌≤◌, eqb, ℤ, pos, negsuc, nat_abs, ◌+ℤ◌, ◌-ℤ◌, ◌*ℤ◌, get_or}
 use Rattle.std.specs.Bool.{beq}
 use Rattle.std.specs.Int.Signed.{lt_z}
-use Rattle.checker.specs.Claim.{Node, set_var, empty, whole, union, inter, compl, num_var, const, maxc, sum, diff, multiple, card, equal, less, divided, setEqual, subset, conj, disj, neg, unknown, Quantifier, intQ, setQ, countQ, Claim}
+use Rattle.checker.specs.Claim.{Node, set_var, empty, whole, union, inter, compl, num_var, const, maxc, sum, diff, multiple, card, equal, less, divided, set_equal, subset, conj, disj, neg, unknown, Quantifier, int_q, set_q, count_q, Claim}
 
 -- ---- the value of a node
 
@@ -76,7 +76,7 @@ value_of w us vs (card a) = num (pos (w.count (set_at vs a)))
 value_of w us vs (equal a b) = truth (eq_z (num_at vs a) (num_at vs b))
 value_of w us vs (less a b) = truth (lt_z (num_at vs a) (num_at vs b))
 value_of w us vs (divided c b) = truth (divides c (num_at vs b))
-value_of w us vs (setEqual a b) = truth (w.same (set_at vs a) (set_at vs b))
+value_of w us vs (set_equal a b) = truth (w.same (set_at vs a) (set_at vs b))
 value_of w us vs (subset a b) = truth (w.within (set_at vs a) (set_at vs b))
 value_of w us vs (conj a b) = truth (truth_at vs a && truth_at vs b)
 value_of w us vs (disj a b) = truth (truth_at vs a || truth_at vs b)
@@ -127,9 +127,9 @@ Quantified false A P = (a : A) → P a
 -- Set quantifiers range over F, `members` giving the set that each stands for.
 abbrev pub Holds : (F : Type 0) → (F → Set) → ℕ → Claim → List Quantifier → List Value → Type 0
 Holds F members N c [] us = matrix (ports N) c us ≡ true
-Holds F members N c (intQ some ∷ qs) us = Quantified some ℤ (λ k. Holds F members N c qs (us ++ num k ∷ []))
-Holds F members N c (setQ some ∷ qs) us = Quantified some F (λ f. Holds F members N c qs (us ++ set (members f) ∷ []))
-Holds F members N c (countQ some ∷ qs) us = Quantified some ℕ (λ k. Holds F members N c qs (us ++ num (pos k) ∷ []))
+Holds F members N c (int_q some ∷ qs) us = Quantified some ℤ (λ k. Holds F members N c qs (us ++ num k ∷ []))
+Holds F members N c (set_q some ∷ qs) us = Quantified some F (λ f. Holds F members N c qs (us ++ set (members f) ∷ []))
+Holds F members N c (count_q some ∷ qs) us = Quantified some ℕ (λ k. Holds F members N c qs (us ++ num (pos k) ∷ []))
 
 -- A subset of N ports.
 pub record Subset (N : ℕ) : Type 0 where

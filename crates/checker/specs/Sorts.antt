@@ -3,7 +3,7 @@
 use Rattle.std.specs.Prelude.{◌≡◌, Bool, true, false, List, [], ◌∷◌, ◌++◌, ℕ, suc, ◌<◌, length, get_or}
 use Rattle.checker.specs.declared.Sort.{Sort}
 use Rattle.checker.specs.declared.Sort.TheVariants.{ASet, ATerm, AFormula, NoSort}
-use Rattle.checker.specs.Claim.{Node, set_var, empty, whole, union, inter, compl, num_var, const, maxc, sum, diff, multiple, card, equal, less, divided, setEqual, subset, conj, disj, neg, unknown, Quantifier, intQ, setQ, countQ, Claim}
+use Rattle.checker.specs.Claim.{Node, set_var, empty, whole, union, inter, compl, num_var, const, maxc, sum, diff, multiple, card, equal, less, divided, set_equal, subset, conj, disj, neg, unknown, Quantifier, int_q, set_q, count_q, Claim}
 
 abbrev pub sort : Node → Sort
 sort (set_var q) = ASet
@@ -22,7 +22,7 @@ sort (card a) = ATerm
 sort (equal a b) = AFormula
 sort (less a b) = AFormula
 sort (divided c b) = AFormula
-sort (setEqual a b) = AFormula
+sort (set_equal a b) = AFormula
 sort (subset a b) = AFormula
 sort (conj a b) = AFormula
 sort (disj a b) = AFormula
@@ -34,13 +34,13 @@ abbrev pub Is : Sort → List Node → ℕ → Type 0
 Is s nodes a = (a < length nodes) × (sort (get_or nodes a unknown) ≡ s)
 
 abbrev pub is_set_q : Quantifier → Bool
-is_set_q (intQ some) = false
-is_set_q (setQ some) = true
-is_set_q (countQ some) = false
+is_set_q (int_q some) = false
+is_set_q (set_q some) = true
+is_set_q (count_q some) = false
 
 -- q is the number of one of the quantifiers, and that binds a set (true) or a number (false)
 abbrev pub Binds : Bool → List Quantifier → ℕ → Type 0
-Binds b qs q = (q < length qs) × (is_set_q (get_or qs q (intQ true)) ≡ b)
+Binds b qs q = (q < length qs) × (is_set_q (get_or qs q (int_q true)) ≡ b)
 
 -- A node may stand after the nodes `done`, under the quantifiers qs.
 abbrev pub Fits : List Quantifier → List Node → Node → Type 0
@@ -60,7 +60,7 @@ Fits qs done (card a) = Is ASet done a
 Fits qs done (equal a b) = Is ATerm done a × Is ATerm done b
 Fits qs done (less a b) = Is ATerm done a × Is ATerm done b
 Fits qs done (divided c b) = Is ATerm done b
-Fits qs done (setEqual a b) = Is ASet done a × Is ASet done b
+Fits qs done (set_equal a b) = Is ASet done a × Is ASet done b
 Fits qs done (subset a b) = Is ASet done a × Is ASet done b
 Fits qs done (conj a b) = Is AFormula done a × Is AFormula done b
 Fits qs done (disj a b) = Is AFormula done a × Is AFormula done b
@@ -77,6 +77,6 @@ WellSorted c = AllFit c.quantifiers [] c.nodes × Is AFormula c.nodes c.root
 -- how many of the quantifiers bind sets
 unfoldable pub sets : List Quantifier → ℕ
 sets [] = 0
-sets (intQ some ∷ qs) = sets qs
-sets (setQ some ∷ qs) = suc (sets qs)
-sets (countQ some ∷ qs) = sets qs
+sets (int_q some ∷ qs) = sets qs
+sets (set_q some ∷ qs) = suc (sets qs)
+sets (count_q some ∷ qs) = sets qs

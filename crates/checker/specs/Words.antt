@@ -1,7 +1,7 @@
 -- A claim and the words that it is stored in (01, "The claim table"): three words a node, one a quantifier, and the trailer.
 -- Assumes nothing.
 use Rattle.std.specs.Prelude.{true, false, List, [], ◌∷◌, ◌++◌, map, ℕ, zero, suc, ◌+◌, ◌*◌, ◌-◌, ℤ, pos, length, get_or}
-use Rattle.checker.specs.Claim.{Node, set_var, empty, whole, union, inter, compl, num_var, const, maxc, sum, diff, multiple, card, equal, less, divided, setEqual, subset, conj, disj, neg, unknown, Quantifier, intQ, setQ, countQ, Claim}
+use Rattle.checker.specs.Claim.{Node, set_var, empty, whole, union, inter, compl, num_var, const, maxc, sum, diff, multiple, card, equal, less, divided, set_equal, subset, conj, disj, neg, unknown, Quantifier, int_q, set_q, count_q, Claim}
 use Rattle.checker.specs.Kinds.{number, node_of, quantifier_of}
 
 -- ---- reading
@@ -73,7 +73,7 @@ fields_of (card a) = fields 16 (pos a) (pos 0)
 fields_of (equal a b) = fields 20 (pos a) (pos b)
 fields_of (less a b) = fields 21 (pos a) (pos b)
 fields_of (divided c b) = fields 22 c (pos b)
-fields_of (setEqual a b) = fields 23 (pos a) (pos b)
+fields_of (set_equal a b) = fields 23 (pos a) (pos b)
 fields_of (subset a b) = fields 24 (pos a) (pos b)
 fields_of (conj a b) = fields 25 (pos a) (pos b)
 fields_of (disj a b) = fields 26 (pos a) (pos b)
@@ -88,12 +88,12 @@ nodes_words [] = []
 nodes_words (n ∷ ns) = node_words n ++ nodes_words ns
 
 abbrev pub quantifier_word : Quantifier → ℤ
-quantifier_word (intQ true) = pos 1
-quantifier_word (intQ false) = pos 2
-quantifier_word (setQ true) = pos 3
-quantifier_word (setQ false) = pos 4
-quantifier_word (countQ true) = pos 5
-quantifier_word (countQ false) = pos 6
+quantifier_word (int_q true) = pos 1
+quantifier_word (int_q false) = pos 2
+quantifier_word (set_q true) = pos 3
+quantifier_word (set_q false) = pos 4
+quantifier_word (count_q true) = pos 5
+quantifier_word (count_q false) = pos 6
 
 abbrev pub mark : ℕ
 mark = 2005

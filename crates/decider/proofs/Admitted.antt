@@ -11,7 +11,7 @@ use Rattle.checker.specs.declared.Refusal.{Refusal}
 use Rattle.checker.specs.declared.Shape.{Shape}
 use Rattle.checker.specs.declared.Checked.{Checked}
 use Rattle.checker.specs.declared.Checked.TheVariants.{Accepted, Refused}
-use Rattle.checker.specs.Claim.{Quantifier, intQ, Claim}
+use Rattle.checker.specs.Claim.{Quantifier, int_q, Claim}
 use Rattle.checker.specs.Sorts.{is_set_q}
 use Rattle.checker.specs.Check.{refusal, Test, verdict}
 use Rattle.checker.proofs.Search.{first_none}
@@ -36,7 +36,7 @@ passed (t ∷ ts) ok x e =
     let rest = passed ts ok x here.1 in
     ((here.0, rest.0), rest.1)
 
-only_sets_lem : (qs : List Quantifier) → ((i : ℕ) → i < length qs → is_set_q (get_or qs i (intQ true)) ≡ true) → T (only_sets qs)
+only_sets_lem : (qs : List Quantifier) → ((i : ℕ) → i < length qs → is_set_q (get_or qs i (int_q true)) ≡ true) → T (only_sets qs)
 unfolding only_sets
 only_sets_lem [] h = tt
 only_sets_lem (q ∷ qs) h = rw (h 0 (omega arith)) (only_sets_lem qs (λ i l. h (suc i) (omega arith)))
@@ -61,7 +61,7 @@ module _ (N : ℕ) (c : Claim) where
         checked = p.1;
         small = t.0;
         sets = only_sets_lem c.quantifiers
-            (λ i l. not-false (is_set_q (get_or c.quantifiers i (intQ true))) (first_none (binds_number c) (length c.quantifiers) t.1 i l));
+            (λ i l. not-false (is_set_q (get_or c.quantifiers i (int_q true))) (first_none (binds_number c) (length c.quantifiers) t.1 i l));
         bounded = t.2;
       }
   admitted (Refused r) x e = let z : ◌≡◌ {A = ℕ} 0 1 = cc in absurd (omega arith)

@@ -12,7 +12,7 @@ use lib.Dec.{T, eqb, ltb}
 use lib.IntN.{ℤ}
 use lib.ListN.{length, get_or, take, drop, set}
 use lib.Seq.{drop-cons, get_or-take, get_or-set_same, get_or-set_other}
-use Rattle.checker.specs.Claim.{Quantifier, intQ, setQ, countQ}
+use Rattle.checker.specs.Claim.{Quantifier, int_q, set_q, count_q}
 use Rattle.checker.specs.Kinds.{number, quantifier_of}
 use Rattle.checker.specs.Words.{word, word_at, nodes_in, claim_of}
 use Rattle.checker.specs.Sorts.{is_set_q, sets}
@@ -21,17 +21,17 @@ use Rattle.decider.specs.Plan.{some_at, only_sets}
 use Rattle.decider.specs.Standing.{exists_at, Kinds}
 
 abbrev pub is_some : Quantifier → Bool
-is_some (intQ some) = some
-is_some (setQ some) = some
-is_some (countQ some) = some
+is_some (int_q some) = some
+is_some (set_q some) = some
+is_some (count_q some) = some
 
 -- The kinds of set quantifiers are 3 and 4.
 pub set_kind : (z : ℤ) → is_set_q (quantifier_of z) ≡ true → (eqb (number z) 3 ≡ is_some (quantifier_of z)) × (number z < 256)
 unfolding quantifier_of
 set_kind z e = go (number z) e
   where
-    go : (k : ℕ) → is_set_q (get_or (intQ true ∷ intQ true ∷ intQ false ∷ setQ true ∷ setQ false ∷ countQ true ∷ countQ false ∷ []) k (intQ true)) ≡ true
-        → (eqb k 3 ≡ is_some (get_or (intQ true ∷ intQ true ∷ intQ false ∷ setQ true ∷ setQ false ∷ countQ true ∷ countQ false ∷ []) k (intQ true))) × (k < 256)
+    go : (k : ℕ) → is_set_q (get_or (int_q true ∷ int_q true ∷ int_q false ∷ set_q true ∷ set_q false ∷ count_q true ∷ count_q false ∷ []) k (int_q true)) ≡ true
+        → (eqb k 3 ≡ is_some (get_or (int_q true ∷ int_q true ∷ int_q false ∷ set_q true ∷ set_q false ∷ count_q true ∷ count_q false ∷ []) k (int_q true))) × (k < 256)
     go zero e = absurd (false≢true e)
     go (suc zero) e = absurd (false≢true e)
     go (suc (suc zero)) e = absurd (false≢true e)
@@ -41,33 +41,33 @@ set_kind z e = go (number z) e
     go (suc (suc (suc (suc (suc (suc zero)))))) e = absurd (false≢true e)
     go (suc (suc (suc (suc (suc (suc (suc k))))))) e = absurd (false≢true e)
 
-pub only_at : (qs : List Quantifier) → T (only_sets qs) → (q : ℕ) → q < length qs → is_set_q (get_or qs q (intQ true)) ≡ true
+pub only_at : (qs : List Quantifier) → T (only_sets qs) → (q : ℕ) → q < length qs → is_set_q (get_or qs q (int_q true)) ≡ true
 unfolding only_sets
 only_at [] o q l = absurd (omega arith)
-only_at (intQ some ∷ qs) o q l = absurd o
-only_at (setQ some ∷ qs) o zero l = refl
-only_at (setQ some ∷ qs) o (suc q) l = only_at qs o q (omega arith)
-only_at (countQ some ∷ qs) o q l = absurd o
+only_at (int_q some ∷ qs) o q l = absurd o
+only_at (set_q some ∷ qs) o zero l = refl
+only_at (set_q some ∷ qs) o (suc q) l = only_at qs o q (omega arith)
+only_at (count_q some ∷ qs) o q l = absurd o
 
 pub sets_all : (qs : List Quantifier) → T (only_sets qs) → sets qs ≡ length qs
 unfolding only_sets sets
 sets_all [] o = refl
-sets_all (intQ some ∷ qs) o = absurd o
-sets_all (setQ some ∷ qs) o = ap suc (sets_all qs o)
-sets_all (countQ some ∷ qs) o = absurd o
+sets_all (int_q some ∷ qs) o = absurd o
+sets_all (set_q some ∷ qs) o = ap suc (sets_all qs o)
+sets_all (count_q some ∷ qs) o = absurd o
 
 -- The first set of qs splits the regions from n to 2 n - 1, and the others those after them.
 set_here : (x : Quantifier) (qs : List Quantifier) (n h : ℕ) → is_set_q x ≡ true → h < n + n → some_at (x ∷ qs) n h ≡ is_some x
 unfolding some_at
-set_here (intQ some) qs n h e l = absurd (false≢true e)
-set_here (setQ some) qs n h e l = rw (lt-ltb h (n + n) l)
-set_here (countQ some) qs n h e l = absurd (false≢true e)
+set_here (int_q some) qs n h e l = absurd (false≢true e)
+set_here (set_q some) qs n h e l = rw (lt-ltb h (n + n) l)
+set_here (count_q some) qs n h e l = absurd (false≢true e)
 
 set_past : (x : Quantifier) (qs : List Quantifier) (n h : ℕ) → is_set_q x ≡ true → n + n ≤ h → some_at (x ∷ qs) n h ≡ some_at qs (n + n) h
 unfolding some_at
-set_past (intQ some) qs n h e l = absurd (false≢true e)
-set_past (setQ some) qs n h e l = rw (le-ltb h (n + n) l)
-set_past (countQ some) qs n h e l = absurd (false≢true e)
+set_past (int_q some) qs n h e l = absurd (false≢true e)
+set_past (set_q some) qs n h e l = rw (le-ltb h (n + n) l)
+set_past (count_q some) qs n h e l = absurd (false≢true e)
 
 -- The first q sets have split the regions below n.
 pub record Level (qs : List Quantifier) (q n : ℕ) : Type 0 where
@@ -78,17 +78,17 @@ pub level_none : (qs : List Quantifier) → Level qs 0 1
 level_none qs = record { power = refl; later = λ h l. refl }
 
 module _ (qs : List Quantifier) (o : T (only_sets qs)) (q n : ℕ) (l : q < length qs) (v : Level qs q n) where
-  next_set : (h : ℕ) → n ≤ h → some_at qs 1 h ≡ some_at (get_or qs q (intQ true) ∷ drop (suc q) qs) n h
-  next_set h a = v.later h a ∙ ap (λ l. some_at l n h) (drop-cons qs q (intQ true) l)
+  next_set : (h : ℕ) → n ≤ h → some_at qs 1 h ≡ some_at (get_or qs q (int_q true) ∷ drop (suc q) qs) n h
+  next_set h a = v.later h a ∙ ap (λ l. some_at l n h) (drop-cons qs q (int_q true) l)
 
-  pub level_here : (h : ℕ) → n ≤ h → h < n + n → some_at qs 1 h ≡ is_some (get_or qs q (intQ true))
-  level_here h a b = next_set h a ∙ set_here (get_or qs q (intQ true)) (drop (suc q) qs) n h (only_at qs o q l) b
+  pub level_here : (h : ℕ) → n ≤ h → h < n + n → some_at qs 1 h ≡ is_some (get_or qs q (int_q true))
+  level_here h a b = next_set h a ∙ set_here (get_or qs q (int_q true)) (drop (suc q) qs) n h (only_at qs o q l) b
 
   pub level_more : Level qs (q + 1) (n + n)
   level_more =
       record {
         power = rw (add-one q, pow-suc 2 q, ← v.power) (omega arith);
-        later = λ h a. next_set h (omega arith) ∙ set_past (get_or qs q (intQ true)) (drop (suc q) qs) n h (only_at qs o q l) a ∙ ap (λ j. some_at (drop j qs) (n + n) h) (sym (add-one q));
+        later = λ h a. next_set h (omega arith) ∙ set_past (get_or qs q (int_q true)) (drop (suc q) qs) n h (only_at qs o q l) a ∙ ap (λ j. some_at (drop j qs) (n + n) h) (sym (add-one q));
       }
 
 -- ---- a table that is filled entry by entry
@@ -105,7 +105,7 @@ rows_more P l h v room all p =
 
 -- The word of quantifier q, where all are sets and there are n nodes, is its kind.
 pub kind_at : (ws : List ℤ) → T (only_sets (claim_of ws).quantifiers) → (n q : ℕ) → n ≡ nodes_in ws → q < length (claim_of ws).quantifiers
-    → (eqb (word_at ws (3 * n + q)) 3 ≡ is_some (get_or (claim_of ws).quantifiers q (intQ true))) × (word_at ws (3 * n + q) < 256)
+    → (eqb (word_at ws (3 * n + q)) 3 ≡ is_some (get_or (claim_of ws).quantifiers q (int_q true))) × (word_at ws (3 * n + q) < 256)
 unfolding word_at
 kind_at ws o n q e l =
     let read = quantifier_in ws q l in
@@ -114,7 +114,7 @@ kind_at ws o n q e l =
 -- One more set's entries are stored.
 pub kinds_more : (qs : List Quantifier) → T (only_sets qs) → (q n : ℕ) → q < length qs → Level qs q n → (before after : List ℕ) (kind : ℕ)
     → Kinds before qs n → take n after ≡ take n before → ((h : ℕ) → n ≤ h → h < n + n → get_or after h 0 ≡ kind)
-    → eqb kind 3 ≡ is_some (get_or qs q (intQ true)) → Kinds after qs (n + n)
+    → eqb kind 3 ≡ is_some (get_or qs q (int_q true)) → Kinds after qs (n + n)
 kinds_more qs o q n l v before after kind ks same filled e h a b = go (ltb h n) refl
   where
     go : (t : Bool) → ltb h n ≡ t → exists_at after h ≡ some_at qs 1 h

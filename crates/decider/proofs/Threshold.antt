@@ -12,7 +12,7 @@ use lib.Dec.{leb, eqb}
 use lib.IntN.{ℤ, pos}
 use lib.ListN.{get_or}
 use lib.Signed.{lt_z}
-use Rattle.checker.specs.Claim.{Node, set_var, empty, whole, union, inter, compl, num_var, const, maxc, sum, diff, multiple, card, equal, less, divided, setEqual, subset, conj, disj, neg, unknown, Quantifier, intQ, setQ, countQ, Claim}
+use Rattle.checker.specs.Claim.{Node, set_var, empty, whole, union, inter, compl, num_var, const, maxc, sum, diff, multiple, card, equal, less, divided, set_equal, subset, conj, disj, neg, unknown, Quantifier, int_q, set_q, count_q, Claim}
 use Rattle.checker.specs.Kinds.{number, within}
 use Rattle.checker.specs.Words.{fields_of}
 use Rattle.checker.specs.Sorts.{sets}
@@ -153,7 +153,7 @@ module _ (K : ℕ) where
     same_value done vs us h (equal a b) o l = ap truth (same_compare done vs us h eq_z (λ x y e c i. equal_blunt K x y e c i) a b o)
     same_value done vs us h (less a b) o l = ap truth (same_compare done vs us h lt_z (λ x y e c i. less_blunt K x y e c i) a b o)
     same_value done vs us h (divided c b) o l = absurd (false≢true o)
-    same_value done vs us h (setEqual a b) o l =
+    same_value done vs us h (set_equal a b) o l =
         rw (same_set done vs us h a, same_set done vs us h b, empty_alike (minus (set_at us a) (set_at us b)), empty_alike (minus (set_at us b) (set_at us a)))
     same_value done vs us h (subset a b) o l =
         rw (same_set done vs us h a, same_set done vs us h b, empty_alike (minus (set_at us a) (set_at us b)))
@@ -177,24 +177,24 @@ module _ (K : ℕ) where
 -- up to where counts must be the same, with these quantifiers to come
 level : ℕ → List Quantifier → ℕ
 level K [] = suc K
-level K (intQ some ∷ qs) = level K qs
-level K (setQ some ∷ qs) = 2 * level K qs
-level K (countQ some ∷ qs) = level K qs
+level K (int_q some ∷ qs) = level K qs
+level K (set_q some ∷ qs) = 2 * level K qs
+level K (count_q some ∷ qs) = level K qs
 
 level_is : (K : ℕ) (qs : List Quantifier) → level K qs ≡ (K + 1) * 2 ^ sets qs
 unfolding level sets
 level_is K [] = omega arith
-level_is K (intQ some ∷ qs) = level_is K qs
-level_is K (setQ some ∷ qs) = rw (level_is K qs, pow-suc 2 (sets qs)) (omega arith)
-level_is K (countQ some ∷ qs) = level_is K qs
+level_is K (int_q some ∷ qs) = level_is K qs
+level_is K (set_q some ∷ qs) = rw (level_is K qs, pow-suc 2 (sets qs)) (omega arith)
+level_is K (count_q some ∷ qs) = level_is K qs
 
 module _ (c : Claim) (o : Thresholds c) (K : ℕ) (l : largest c.nodes ≤ K) where
   carried : (qs : List Quantifier) (vs : List Value) (cs ds : List ℕ) → Alike (level K qs) cs ds → HoldsR c qs vs cs → HoldsR c qs vs ds
   unfolding level matrix
   carried [] vs cs ds h = λ t. sym (same_values K cs ds h vs c.nodes [] [] [] tt o.only l c.root) ∙ t
-  carried (intQ some ∷ qs) vs cs ds h =
+  carried (int_q some ∷ qs) vs cs ds h =
       quantified_imp some (λ k. k) (λ k. k) (λ k. carried qs (vs ++ num k ∷ []) cs ds h) (λ k. carried qs (vs ++ num k ∷ []) cs ds h)
-  carried (setQ some ∷ qs) vs cs ds h =
+  carried (set_q some ∷ qs) vs cs ds h =
       let there : (x : (ls : List ℕ) × Split cs ls) → (ms : List ℕ) × (Split ds ms × Alike (level K qs) x.0 ms) =
       λ x. transfer (level K qs) cs ds x.0 h x.1 in
       let back : (y : (ms : List ℕ) × Split ds ms) → (ls : List ℕ) × (Split cs ls × Alike (level K qs) y.0 ls) =
@@ -202,7 +202,7 @@ module _ (c : Claim) (o : Thresholds c) (K : ℕ) (l : largest c.nodes ≤ K) wh
       quantified_imp some (λ x. ((there x).0, (there x).1.0)) (λ y. ((back y).0, (back y).1.0))
       (λ x. carried qs (grow vs) x.0 (there x).0 (there x).1.1)
       (λ y. carried qs (grow vs) (back y).0 y.0 (alike_sym (level K qs) y.0 (back y).0 (back y).1.1))
-  carried (countQ some ∷ qs) vs cs ds h =
+  carried (count_q some ∷ qs) vs cs ds h =
       quantified_imp some (λ k. k) (λ k. k) (λ k. carried qs (vs ++ num (pos k) ∷ []) cs ds h) (λ k. carried qs (vs ++ num (pos k) ∷ []) cs ds h)
 
 -- P7: with K the largest constant and S sets, the truth is the same at all sizes from (K + 1) × 2^S up. Number quantifiers may stand.

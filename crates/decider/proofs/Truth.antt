@@ -13,7 +13,7 @@ use lib.Dec.{T}
 use lib.ListN.{length, get_or, drop, length-append}
 use lib.Pow.{pow_pos}
 use lib.Seq.{drop-cons, drop-append-le}
-use Rattle.checker.specs.Claim.{Quantifier, intQ, setQ, countQ, Claim}
+use Rattle.checker.specs.Claim.{Quantifier, int_q, set_q, count_q, Claim}
 use Rattle.checker.specs.Sorts.{sets}
 use Rattle.checker.specs.Meaning.{Value, matrix, Quantified, TrueAt}
 use Rattle.region.specs.Regions.{Split, regions}
@@ -114,8 +114,8 @@ module _ (c : Claim) where
       → Yes (queue (λ ls. matrix (regions ls) c (grown qs vs)) some (length cs * 2 ^ sets qs - length cs) (length cs) cs) ↔ HoldsR c qs vs cs
   unfolding queue grown some_at only_sets sets
   queue_true [] o vs cs some pol = let none : length cs * 1 - length cs ≡ 0 = omega arith in rw none Iff.rfl
-  queue_true (intQ one ∷ qs) o vs cs some pol = absurd o
-  queue_true (setQ one ∷ qs) o vs cs some pol =
+  queue_true (int_q one ∷ qs) o vs cs some pol = absurd o
+  queue_true (set_q one ∷ qs) o vs cs some pol =
       let n = length cs in
       let here : (j : ℕ) → n ≤ j → j < n + n → some j ≡ one = λ j a b. pol j a ∙ rw (lt-ltb j (n + n) b) in
       let later : (j : ℕ) → n + n ≤ j → some j ≡ some_at qs (n + n) j = λ j a. pol j (omega arith) ∙ rw (le-ltb j (n + n) a) in
@@ -123,7 +123,7 @@ module _ (c : Claim) where
       rw (splits_more n (sets qs))
       (Iff.trans (rw (append-nil cs) at (level holds some one ((n + n) * 2 ^ sets qs - (n + n)) cs [] n here))
       (quantified_same one (λ x. rw (split-length cs x.0 x.1) at (queue_true qs o (grow vs) x.0 some (rw (split-length cs x.0 x.1) later)))))
-  queue_true (countQ one ∷ qs) o vs cs some pol = absurd o
+  queue_true (count_q one ∷ qs) o vs cs some pol = absurd o
 
 -- P6: the rule's truth at size N is the claim's.
 pub rule_true : (N : ℕ) (c : Claim) → T (only_sets c.quantifiers) → ((ruling N c).truth ≡ true) ↔ TrueAt N c

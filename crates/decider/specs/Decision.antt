@@ -3,7 +3,7 @@
 use Rattle.std.specs.Prelude.{Bool, true, cond, not, List, [], ◌∷◌, ℕ, ◌+◌, ◌*◌, leb, ltb, ℤ, length, get_or}
 use Rattle.checker.specs.declared.Checked.{Checked}
 use Rattle.checker.specs.declared.Checked.TheVariants as checked
-use Rattle.checker.specs.Claim.{intQ, Claim}
+use Rattle.checker.specs.Claim.{int_q, Claim}
 use Rattle.checker.specs.Words.{claim_of}
 use Rattle.checker.specs.Sorts.{is_set_q}
 use Rattle.checker.specs.Search.{first}
@@ -20,7 +20,7 @@ max_size = 4096
 
 -- quantifier i ranges over numbers
 unfoldable pub binds_number : Claim → ℕ → Bool
-binds_number c i = not (is_set_q (get_or c.quantifiers i (intQ true)))
+binds_number c i = not (is_set_q (get_or c.quantifiers i (int_q true)))
 
 abbrev pub first_number : Claim → ℕ
 first_number c = first (binds_number c) (length c.quantifiers)

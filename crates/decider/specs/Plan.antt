@@ -1,6 +1,6 @@
 -- What the decider's rule is given by a claim (01, "The decider"). Assumes nothing.
 use Rattle.std.specs.Prelude.{Bool, true, cond, ◌&&◌, List, [], ◌∷◌, ℕ, ◌+◌, ◌-◌, ◌^◌, ◌≤◌, ltb, get_or}
-use Rattle.checker.specs.Claim.{Quantifier, intQ, setQ, countQ, Claim}
+use Rattle.checker.specs.Claim.{Quantifier, int_q, set_q, count_q, Claim}
 use Rattle.checker.specs.Sorts.{is_set_q, sets}
 use Rattle.checker.specs.Meaning.{matrix}
 use Rattle.region.specs.Regions.{regions}
@@ -11,9 +11,9 @@ use Rattle.decider.specs.Rule.{Ruling, Plan, split, rule}
 -- those from 2 n on, and so on.
 unfoldable pub some_at : List Quantifier → ℕ → ℕ → Bool
 some_at [] n h = true
-some_at (intQ some ∷ qs) n h = some_at qs n h
-some_at (setQ some ∷ qs) n h = cond (ltb h (n + n)) some (some_at qs (n + n) h)
-some_at (countQ some ∷ qs) n h = some_at qs n h
+some_at (int_q some ∷ qs) n h = some_at qs n h
+some_at (set_q some ∷ qs) n h = cond (ltb h (n + n)) some (some_at qs (n + n) h)
+some_at (count_q some ∷ qs) n h = some_at qs n h
 
 -- Every inside count is tried, from 0 up to the region's own.
 abbrev pub plan_of : Claim → Plan

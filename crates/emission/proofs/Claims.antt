@@ -10,18 +10,18 @@ use lib.ListN.{length, get_or, take}
 use lib.Seq.{get_or-take, length-take-le}
 use Rattle.checker.specs.declared.Shape.{Shape}
 use Rattle.checker.specs.declared.Sort.{Sort}
-use Rattle.checker.specs.Claim.{Node, unknown, intQ}
+use Rattle.checker.specs.Claim.{Node, unknown, int_q}
 use Rattle.checker.specs.Kinds.{number, quantifier_of}
 use Rattle.checker.specs.Words.{word, word_at, node_at, claim_of, fields_of, node_words, nodes_words, quantifier_word, trailer, words_of}
 use Rattle.checker.specs.Sorts.{sort, Is, Fits}
 use Rattle.checker.proofs.Fitting.{fits_at}
-use Rattle.checker.proofs.Claims.{node_count, node_at_lem, quantifier_in, Sound}
+use Rattle.checker.proofs.Claims.{node_count_lem, node_at_lem, quantifier_in, Sound}
 
 -- quantifier j by its kind, where there are n nodes
 pub quantifier_at_lem : (ws : List ℤ) (n j : ℕ) → n ≡ length (claim_of ws).nodes → j < length (claim_of ws).quantifiers
-    → get_or (claim_of ws).quantifiers j (intQ true) ≡ quantifier_of (pos (word_at ws (3 * n + j)))
+    → get_or (claim_of ws).quantifiers j (int_q true) ≡ quantifier_of (pos (word_at ws (3 * n + j)))
 unfolding quantifier_of number word_at
-quantifier_at_lem ws n j e h = quantifier_in ws j h ∙ rw (← node_count ws, e)
+quantifier_at_lem ws n j e h = quantifier_in ws j h ∙ rw (← node_count_lem ws, e)
 
 -- the words of node i in a list of words
 record WordsAt (ws : List ℤ) (i : ℕ) (n : Node) : Type 0 where

@@ -13,7 +13,7 @@ use lib.IntN.{pos}
 use lib.ListN.{length, get_or, take, drop, set, length-set, length-take, take-append-drop}
 use lib.Pow.{shl_exact}
 use lib.Seq.{sets, length-sets, get_or-set_same, get_or-set_other, drop-set-lt, take-length}
-use Rattle.checker.specs.Claim.{maxc, num_var, Quantifier, intQ, setQ, countQ}
+use Rattle.checker.specs.Claim.{maxc, num_var, Quantifier, int_q, set_q, count_q}
 use Rattle.checker.specs.Kinds.{number, quantifier_of}
 use Rattle.checker.specs.Sorts as Sorts
 use Rattle.checker.specs.Sorts.{is_set_q}
@@ -40,9 +40,9 @@ some_counts (suc level) first r n = refl
 pub sets-append : (ps qs : List Quantifier) → Sorts.sets (ps ++ qs) ≡ Sorts.sets ps + Sorts.sets qs
 unfolding Sorts.sets
 sets-append [] qs = omega arith
-sets-append (intQ some ∷ ps) qs = sets-append ps qs
-sets-append (setQ some ∷ ps) qs = omega (arith, sets-append ps qs)
-sets-append (countQ some ∷ ps) qs = sets-append ps qs
+sets-append (int_q some ∷ ps) qs = sets-append ps qs
+sets-append (set_q some ∷ ps) qs = omega (arith, sets-append ps qs)
+sets-append (count_q some ∷ ps) qs = sets-append ps qs
 
 pub sets_front : (j : ℕ) (qs : List Quantifier) → Sorts.sets (take j qs) + Sorts.sets (drop j qs) ≡ Sorts.sets qs
 sets_front j qs = sym (sets-append (take j qs) (drop j qs)) ∙ ap Sorts.sets (take-append-drop j qs)
@@ -79,7 +79,7 @@ inside_one qs q = inside-append start qs (q ∷ [])
 
 module _ {qs : List Quantifier} {f : code.Frame} (s : Says qs f) where
   pub says_set : (some : Bool) (next : ℕ) → next ≡ f.next + 2 * 2 ^ f.level
-      → Says (qs ++ setQ some ∷ []) (record { next = next; level = f.level + 1; first = f.next })
+      → Says (qs ++ set_q some ∷ []) (record { next = next; level = f.level + 1; first = f.next })
   unfolding with_set Sorts.sets
   says_set some next e =
       record {
@@ -90,14 +90,14 @@ module _ {qs : List Quantifier} {f : code.Frame} (s : Says qs f) where
 
   pub says_number : (q : Quantifier) → is_set_q q ≡ false → Says (qs ++ q ∷ []) (record { next = f.next + 1; level = f.level; first = f.first })
   unfolding with_number Sorts.sets
-  says_number (intQ some) e =
+  says_number (int_q some) e =
       record {
         next = rw inside_one (omega (arith, s.next));
         level = rw sets-append (omega (arith, s.level));
         first = rw inside_one s.first;
       }
-  says_number (setQ some) e = let z : ◌≡◌ {A = ℕ} 0 1 = cc in absurd (omega arith)
-  says_number (countQ some) e =
+  says_number (set_q some) e = let z : ◌≡◌ {A = ℕ} 0 1 = cc in absurd (omega arith)
+  says_number (count_q some) e =
       record {
         next = rw inside_one (omega (arith, s.next));
         level = rw sets-append (omega (arith, s.level));
@@ -113,11 +113,11 @@ place_from : (qs : List Quantifier) (f : Frame) (e : ℕ) → f.place ≡ place_
     → (inside_all f qs).place ≡ place_at (e + Sorts.sets qs) (first_of (inside_all f qs).place)
 unfolding inside_all with_number with_set Sorts.sets
 place_from [] f e h = rw add-zero h
-place_from (intQ some ∷ qs) f e h = place_from qs (with_number f) e h
-place_from (setQ some ∷ qs) f e h =
+place_from (int_q some ∷ qs) f e h = place_from qs (with_number f) e h
+place_from (set_q some ∷ qs) f e h =
     let more : suc e + Sorts.sets qs ≡ e + suc (Sorts.sets qs) = omega arith in
     place_from qs (with_set f) (suc e) refl ∙ ap (λ k. place_at k (first_of (inside_all (with_set f) qs).place)) more
-place_from (countQ some ∷ qs) f e h = place_from qs (with_number f) e h
+place_from (count_q some ∷ qs) f e h = place_from qs (with_number f) e h
 
 pub place_is : {qs : List Quantifier} {f : code.Frame} → Says qs f → (inside_all start qs).place ≡ place_in f
 unfolding start
@@ -127,9 +127,9 @@ place_is {qs} {f} s = place_from qs start 0 refl ∙ ap₂ place_at (zero-add (S
 first_low : (qs : List Quantifier) (f : Frame) → first_of f.place ≤ f.next → first_of (inside_all f qs).place ≤ (inside_all f qs).next
 unfolding inside_all with_number with_set
 first_low [] f h = h
-first_low (intQ some ∷ qs) f h = first_low qs (with_number f) (omega arith)
-first_low (setQ some ∷ qs) f h = first_low qs (with_set f) (omega arith)
-first_low (countQ some ∷ qs) f h = first_low qs (with_number f) (omega arith)
+first_low (int_q some ∷ qs) f h = first_low qs (with_number f) (omega arith)
+first_low (set_q some ∷ qs) f h = first_low qs (with_set f) (omega arith)
+first_low (count_q some ∷ qs) f h = first_low qs (with_number f) (omega arith)
 
 pub first_small : {qs : List Quantifier} {f : code.Frame} → Says qs f → length qs ≤ max_quantifiers → Sorts.sets qs ≤ max_sets → f.first ≤ max_quantifiers + 2 * pattern_bits
 unfolding start
@@ -140,7 +140,7 @@ pub says_all : {plan : List ℕ} {qs : List Quantifier} {n : ℕ} {f : code.Fram
 says_all {plan} {qs} {n} {f} p e h = rw (h, e) (rw (take-length qs) at (p.says (length qs) (le_refl (length qs))))
 
 -- kinds 3 and 4 bind sets
-pub kind_set : (k : ℕ) → 3 ≤ k → k < 5 → (some : Bool) × (quantifier_of (pos k) ≡ setQ some)
+pub kind_set : (k : ℕ) → 3 ≤ k → k < 5 → (some : Bool) × (quantifier_of (pos k) ≡ set_q some)
 unfolding quantifier_of number
 kind_set zero l h = absurd (omega arith)
 kind_set (suc zero) l h = absurd (omega arith)

@@ -11,7 +11,7 @@ use lib.IntN.{ℤ, pos}
 use lib.ListN.{length, get_or, take}
 use lib.Seq.{length-take-le}
 use Rattle.checker.specs.declared.Shape.{Shape}
-use Rattle.checker.specs.Claim.{Node, set_var, empty, whole, union, inter, compl, num_var, const, maxc, sum, diff, multiple, card, equal, less, divided, setEqual, subset, conj, disj, neg, unknown, Quantifier}
+use Rattle.checker.specs.Claim.{Node, set_var, empty, whole, union, inter, compl, num_var, const, maxc, sum, diff, multiple, card, equal, less, divided, set_equal, subset, conj, disj, neg, unknown, Quantifier}
 use Rattle.checker.specs.Kinds.{number}
 use Rattle.checker.specs.Words.{word, word_at, fields, fields_of, claim_of}
 use Rattle.checker.specs.Sorts.{Fits}
@@ -52,7 +52,7 @@ no_run f k new pat (card a) qs done t h = absurd (omega arith)
 no_run f k new pat (equal a b) qs done t h = absurd (omega arith)
 no_run f k new pat (less a b) qs done t h = absurd (omega arith)
 no_run f k new pat (divided c b) qs done t h = absurd (omega arith)
-no_run f k new pat (setEqual a b) qs done t h = absurd (omega arith)
+no_run f k new pat (set_equal a b) qs done t h = absurd (omega arith)
 no_run f k new pat (subset a b) qs done t h = absurd (omega arith)
 no_run f k new pat (conj a b) qs done t h = absurd (omega arith)
 no_run f k new pat (disj a b) qs done t h = absurd (omega arith)
@@ -81,7 +81,7 @@ one_node f k new pat (card a) s = absurd (s.no_card refl)
 one_node f k new pat (equal a b) s = refl
 one_node f k new pat (less a b) s = refl
 one_node f k new pat (divided c b) s = refl
-one_node f k new pat (setEqual a b) s = absurd (s.no_equal refl)
+one_node f k new pat (set_equal a b) s = absurd (s.no_equal refl)
 one_node f k new pat (subset a b) s = absurd (s.no_subset refl)
 one_node f k new pat (conj a b) s = refl
 one_node f k new pat (disj a b) s = refl
@@ -126,7 +126,7 @@ pair_renewed f k new pat (card a) qs done t p = absurd (p.single.no_card refl)
 pair_renewed f k new pat (equal a b) qs done t p = record { node = equal (new a) (new b); run = refl; words = refl; first = t.0.0; second = t.1.0; small = omega arith }
 pair_renewed f k new pat (less a b) qs done t p = record { node = less (new a) (new b); run = refl; words = refl; first = t.0.0; second = t.1.0; small = omega arith }
 pair_renewed f k new pat (divided c b) qs done t p = absurd (p.no_divided refl)
-pair_renewed f k new pat (setEqual a b) qs done t p = absurd (p.single.no_equal refl)
+pair_renewed f k new pat (set_equal a b) qs done t p = absurd (p.single.no_equal refl)
 pair_renewed f k new pat (subset a b) qs done t p = absurd (p.single.no_subset refl)
 pair_renewed f k new pat (conj a b) qs done t p = record { node = conj (new a) (new b); run = refl; words = refl; first = t.0.0; second = t.1.0; small = omega arith }
 pair_renewed f k new pat (disj a b) qs done t p = record { node = disj (new a) (new b); run = refl; words = refl; first = t.0.0; second = t.1.0; small = omega arith }
@@ -286,14 +286,14 @@ module _ {ws : List ℤ} {shape : Shape} {plan : List ℕ} {i : ℕ} (ready : Re
     pub equal_children : word_at ws (3 * i) ≡ 23 → SetChild ready patterned a × SetChild ready patterned b
     unfolding word_at
     equal_children e =
-        let t = fitting ready (setEqual a b) (of_its_kind ready 23 e) in
+        let t = fitting ready (set_equal a b) (of_its_kind ready 23 e) in
         (set_child ready patterned a t.0, set_child ready patterned b t.1)
 
     pub run_equal : word_at ws (3 * i) ≡ 23 → run_at (claim_of ws) i ≡ both_run (place_in f) at (without patterns a b) (without patterns b a)
     unfolding run_of word_at
     run_equal e =
         let t = equal_children e in
-        run_is (setEqual a b) (of_its_kind ready 23 e)
+        run_is (set_equal a b) (of_its_kind ready 23 e)
         ∙ rw (place_is says, ← counted, without_is a b t.0 t.1, without_is b a t.1 t.0)
 
     pub subset_children : word_at ws (3 * i) ≡ 24 → SetChild ready patterned a × SetChild ready patterned b

@@ -7,7 +7,7 @@ use Prim.Native.Nat.{ℕ, zero, suc, ◌+◌, ◌*◌, ◌-◌, ◌^◌, ◌<◌
 use native.Mathlib.Nat.{add-zero, pow-succ', mul_comm, mul_assoc, mul-one}
 use native.Mathlib.Omega.{arith}
 use lib.ListN.{length, length-append, replicate, length-replicate}
-use Rattle.checker.specs.Claim.{Node, Quantifier, set_var, empty, whole, union, inter, compl, num_var, const, maxc, sum, diff, multiple, card, equal, less, divided, setEqual, subset, conj, disj, neg, unknown, intQ, setQ, countQ}
+use Rattle.checker.specs.Claim.{Node, Quantifier, set_var, empty, whole, union, inter, compl, num_var, const, maxc, sum, diff, multiple, card, equal, less, divided, set_equal, subset, conj, disj, neg, unknown, int_q, set_q, count_q}
 use Rattle.checker.specs.Sorts.{sets}
 use Rattle.checker.specs.Meaning.{Set}
 use Rattle.region.specs.Regions.{dbl, minus, covered}
@@ -26,36 +26,36 @@ twice_power n k h =
 pub regions_power : (qs : List Quantifier) (f : Frame) → (inside_all f qs).regions ≡ f.regions * 2 ^ sets qs
 unfolding inside_all sets with_number with_set
 regions_power [] f = sym (mul-one f.regions)
-regions_power (intQ some ∷ qs) f = regions_power qs (with_number f)
-regions_power (setQ some ∷ qs) f = twice_power f.regions (sets qs) (regions_power qs (with_set f))
-regions_power (countQ some ∷ qs) f = regions_power qs (with_number f)
+regions_power (int_q some ∷ qs) f = regions_power qs (with_number f)
+regions_power (set_q some ∷ qs) f = twice_power f.regions (sets qs) (regions_power qs (with_set f))
+regions_power (count_q some ∷ qs) f = regions_power qs (with_number f)
 
 -- the number of emitted quantifiers
 pub next_is : (qs : List Quantifier) (f : Frame) → (inside_all f qs).next ≡ f.next + length (emit_quantifiers f qs)
 unfolding inside_all emit_quantifiers becomes with_number with_set
 next_is [] f = sym (add-zero f.next)
-next_is (intQ some ∷ qs) f = omega (arith, next_is qs (with_number f))
-next_is (setQ some ∷ qs) f =
-    let row = replicate (dbl f.regions) (countQ some) in
-    omega (arith, next_is qs (with_set f), length-append row (emit_quantifiers (with_set f) qs), length-replicate (dbl f.regions) (countQ some))
-next_is (countQ some ∷ qs) f = omega (arith, next_is qs (with_number f))
+next_is (int_q some ∷ qs) f = omega (arith, next_is qs (with_number f))
+next_is (set_q some ∷ qs) f =
+    let row = replicate (dbl f.regions) (count_q some) in
+    omega (arith, next_is qs (with_set f), length-append row (emit_quantifiers (with_set f) qs), length-replicate (dbl f.regions) (count_q some))
+next_is (count_q some ∷ qs) f = omega (arith, next_is qs (with_number f))
 
 -- each set with e sets outside it becomes 2 ^ (e + 1) quantifiers
 pub quantifiers-length : (qs : List Quantifier) (f : Frame)
     → length (emit_quantifiers f qs) + sets qs + 2 * f.regions ≡ length qs + 2 * (inside_all f qs).regions
 unfolding inside_all emit_quantifiers becomes sets with_number with_set
 quantifiers-length [] f = omega arith
-quantifiers-length (intQ some ∷ qs) f = omega (arith, quantifiers-length qs (with_number f))
-quantifiers-length (setQ some ∷ qs) f =
-    let row = replicate (dbl f.regions) (countQ some) in
+quantifiers-length (int_q some ∷ qs) f = omega (arith, quantifiers-length qs (with_number f))
+quantifiers-length (set_q some ∷ qs) f =
+    let row = replicate (dbl f.regions) (count_q some) in
     omega (
       arith,
       quantifiers-length qs (with_set f),
       dbl_is f.regions,
       length-append row (emit_quantifiers (with_set f) qs),
-      length-replicate (dbl f.regions) (countQ some),
+      length-replicate (dbl f.regions) (count_q some),
     )
-quantifiers-length (countQ some ∷ qs) f = omega (arith, quantifiers-length qs (with_number f))
+quantifiers-length (count_q some ∷ qs) f = omega (arith, quantifiers-length qs (with_number f))
 
 -- ---- the runs of nodes
 
@@ -111,7 +111,7 @@ run_short f k st pat (card a) h =
 run_short f k st pat (equal a b) h = omega arith
 run_short f k st pat (less a b) h = omega arith
 run_short f k st pat (divided c b) h = omega arith
-run_short f k st pat (setEqual a b) h =
+run_short f k st pat (set_equal a b) h =
     let rs = covered 0 f.regions (minus (pat a) (pat b)) in
     let ss = covered 0 f.regions (minus (pat b) (pat a)) in
     omega (arith, both-length f.place rs ss k, both_short rs ss f.regions h (covered_apart f.regions 0 (pat a) (pat b)))
@@ -153,13 +153,13 @@ pub close-length : (qs : List Quantifier) (f : Frame) (b : Body) → 0 < f.regio
     → length (close f qs b).nodes + 6 * f.regions ≡ length b.nodes + 6 * (inside_all f qs).regions + all_sets qs
 unfolding close inside_all all_sets with_number with_set
 close-length [] f b h = omega arith
-close-length (intQ some ∷ qs) f b h = close-length qs (with_number f) b h
-close-length (setQ true ∷ qs) f b h =
+close-length (int_q some ∷ qs) f b h = close-length qs (with_number f) b h
+close-length (set_q true ∷ qs) f b h =
     let inner = close (with_set f) qs b in
     let k = length inner.nodes in
     omega (arith, close-length qs (with_set f) b (dbl_some f.regions h), some-length (split_run f k) inner, split-length f k h, dbl_is f.regions)
-close-length (setQ false ∷ qs) f b h =
+close-length (set_q false ∷ qs) f b h =
     let inner = close (with_set f) qs b in
     let k = length inner.nodes in
     omega (arith, close-length qs (with_set f) b (dbl_some f.regions h), all-length (split_run f k) inner, split-length f k h, dbl_is f.regions)
-close-length (countQ some ∷ qs) f b h = close-length qs (with_number f) b h
+close-length (count_q some ∷ qs) f b h = close-length qs (with_number f) b h

@@ -11,7 +11,7 @@ use lib.IntN.{ℤ}
 use lib.ListN.{get_or, take, drop}
 use Rattle.checker.specs.declared.Shape.{Shape}
 use Rattle.checker.specs.declared.Sort.TheVariants.{ASet, ATerm, AFormula, NoSort}
-use Rattle.checker.specs.Claim.{Node, set_var, empty, whole, union, inter, compl, Quantifier, intQ, setQ, countQ}
+use Rattle.checker.specs.Claim.{Node, set_var, empty, whole, union, inter, compl, Quantifier, int_q, set_q, count_q}
 use Rattle.checker.specs.Kinds.{within, sort_of}
 use Rattle.checker.specs.Words.{word_at, claim_of}
 use Rattle.checker.specs.Sorts as Sorts
@@ -58,9 +58,9 @@ all_cut false = refl
 
 one_more : (q : Quantifier) (qs : List Quantifier) → is_set_q q ≡ true → Sorts.sets (q ∷ qs) ≡ suc (Sorts.sets qs)
 unfolding Sorts.sets
-one_more (intQ some) qs e = let z : ◌≡◌ {A = ℕ} 0 1 = cc in absurd (omega arith)
-one_more (setQ some) qs e = refl
-one_more (countQ some) qs e = let z : ◌≡◌ {A = ℕ} 0 1 = cc in absurd (omega arith)
+one_more (int_q some) qs e = let z : ◌≡◌ {A = ℕ} 0 1 = cc in absurd (omega arith)
+one_more (set_q some) qs e = refl
+one_more (count_q some) qs e = let z : ◌≡◌ {A = ℕ} 0 1 = cc in absurd (omega arith)
 
 -- the sets outside quantifier q, itself, and those inside it
 pub sets_around : (qs : List Quantifier) (q : ℕ) → Binds true qs q → Sorts.sets qs ≡ Sorts.sets (take q qs) + suc (Sorts.sets (drop (q + 1) qs))
@@ -68,19 +68,19 @@ sets_around qs q b =
     omega (
       arith,
       sets_front q qs,
-      ap Sorts.sets (next_dropped qs (intQ true) q b.0),
-      one_more (get_or qs q (intQ true)) (drop (q + 1) qs) b.1,
+      ap Sorts.sets (next_dropped qs (int_q true) q b.0),
+      one_more (get_or qs q (int_q true)) (drop (q + 1) qs) b.1,
     )
 
 covers_bit : (q : Quantifier) (k r : ℕ) → is_set_q q ≡ true → cover_at q k r ≡ covers r k
 unfolding covers
-covers_bit (intQ some) k r e = let z : ◌≡◌ {A = ℕ} 0 1 = cc in absurd (omega arith)
-covers_bit (setQ some) k r e = refl
-covers_bit (countQ some) k r e = let z : ◌≡◌ {A = ℕ} 0 1 = cc in absurd (omega arith)
+covers_bit (int_q some) k r e = let z : ◌≡◌ {A = ℕ} 0 1 = cc in absurd (omega arith)
+covers_bit (set_q some) k r e = refl
+covers_bit (count_q some) k r e = let z : ◌≡◌ {A = ℕ} 0 1 = cc in absurd (omega arith)
 
 bit_is : (qs : List Quantifier) (q k r : ℕ) → Binds true qs q → k ≡ Sorts.sets (drop (q + 1) qs) → get_or (inside_all start qs).covers q none r ≡ covers r k
 bit_is qs q k r b e =
-    ap (λ (w : Set). w r) (cover_bit qs q (intQ true) b.0) ∙ covers_bit (get_or qs q (intQ true)) _ r b.1 ∙ ap (covers r) (sym e)
+    ap (λ (w : Set). w r) (cover_bit qs q (int_q true) b.0) ∙ covers_bit (get_or qs q (int_q true)) _ r b.1 ∙ ap (covers r) (sym e)
 
 -- ---- the entries of other nodes
 

@@ -9,7 +9,7 @@ use native.Mathlib.Omega.{arith}
 use lib.ListN.{length, get_or, take, drop}
 use lib.Pow.{shr-shr}
 use lib.Seq.{take-suc, drop-cons}
-use Rattle.checker.specs.Claim.{Node, Quantifier, sum, conj, intQ, setQ, countQ}
+use Rattle.checker.specs.Claim.{Node, Quantifier, sum, conj, int_q, set_q, count_q}
 use Rattle.checker.specs.Sorts.{sets}
 use Rattle.checker.specs.Meaning.{Set}
 use Rattle.region.specs.Regions.{odd}
@@ -122,9 +122,9 @@ nexts f (q ∷ qs) = f.next ∷ nexts (inside f q) qs
 
 inside_numbers : (f : Frame) (q : Quantifier) → (inside f q).numbers ≡ f.numbers ++ f.next ∷ []
 unfolding with_number with_set
-inside_numbers f (intQ some) = refl
-inside_numbers f (setQ some) = refl
-inside_numbers f (countQ some) = refl
+inside_numbers f (int_q some) = refl
+inside_numbers f (set_q some) = refl
+inside_numbers f (count_q some) = refl
 
 numbers_are : (qs : List Quantifier) (f : Frame) → (inside_all f qs).numbers ≡ f.numbers ++ nexts f qs
 unfolding inside_all nexts
@@ -147,9 +147,9 @@ number_at qs q h = ap (λ l. get_or l q 0) (numbers_are qs start) ∙ nexts_at q
 
 -- a quantifier with k sets inside it
 abbrev pub cover_at : Quantifier → ℕ → Set
-cover_at (intQ some) k = none
-cover_at (setQ some) k = λ r. odd (r / 2 ^ k)
-cover_at (countQ some) k = none
+cover_at (int_q some) k = none
+cover_at (set_q some) k = λ r. odd (r / 2 ^ k)
+cover_at (count_q some) k = none
 
 unfoldable pub own : List Quantifier → List Set
 own [] = []
@@ -176,9 +176,9 @@ set_covers k ps ms os h =
 pub covers_are : (qs : List Quantifier) (f : Frame) → (inside_all f qs).covers ≡ map (shifted (sets qs)) f.covers ++ own qs
 unfolding inside_all own sets with_number with_set
 covers_are [] f = sym (append-nil (map (shifted 0) f.covers) ∙ shifted_none f.covers)
-covers_are (intQ some ∷ qs) f = number_covers (sets qs) f.covers _ (own qs) (covers_are qs (with_number f))
-covers_are (setQ some ∷ qs) f = set_covers (sets qs) f.covers _ (own qs) (covers_are qs (with_set f))
-covers_are (countQ some ∷ qs) f = number_covers (sets qs) f.covers _ (own qs) (covers_are qs (with_number f))
+covers_are (int_q some ∷ qs) f = number_covers (sets qs) f.covers _ (own qs) (covers_are qs (with_number f))
+covers_are (set_q some ∷ qs) f = set_covers (sets qs) f.covers _ (own qs) (covers_are qs (with_set f))
+covers_are (count_q some ∷ qs) f = number_covers (sets qs) f.covers _ (own qs) (covers_are qs (with_number f))
 
 own_at : (qs : List Quantifier) (q : ℕ) (d : Quantifier) → q < length qs → get_or (own qs) q none ≡ cover_at (get_or qs q d) (sets (drop (suc q) qs))
 unfolding own

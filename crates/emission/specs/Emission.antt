@@ -1,7 +1,7 @@
 -- The emission (01, "The emission"): the counting claim that a claim is reduced to, node for node.
 -- Assumes nothing.
 use Rattle.std.specs.Prelude.{true, false, not, ◌&&◌, ◌||◌, List, [], ◌∷◌, ◌++◌, map, ℕ, zero, suc, ◌+◌, ◌*◌, ◌-◌, pos, length, get_or, replicate}
-use Rattle.checker.specs.Claim.{Node, set_var, empty, whole, union, inter, compl, num_var, const, maxc, sum, diff, multiple, card, equal, less, divided, setEqual, subset, conj, disj, neg, unknown, Quantifier, intQ, setQ, countQ, Claim}
+use Rattle.checker.specs.Claim.{Node, set_var, empty, whole, union, inter, compl, num_var, const, maxc, sum, diff, multiple, card, equal, less, divided, set_equal, subset, conj, disj, neg, unknown, Quantifier, int_q, set_q, count_q, Claim}
 use Rattle.checker.specs.Meaning.{Set}
 use Rattle.region.specs.Regions.{half, odd, dbl, minus, covered}
 
@@ -57,9 +57,9 @@ with_set f =
 
 -- the frame inside one more quantifier, and inside all
 abbrev pub inside : Frame → Quantifier → Frame
-inside f (intQ some) = with_number f
-inside f (setQ some) = with_set f
-inside f (countQ some) = with_number f
+inside f (int_q some) = with_number f
+inside f (set_q some) = with_set f
+inside f (count_q some) = with_number f
 
 unfoldable pub inside_all : Frame → List Quantifier → Frame
 inside_all f [] = f
@@ -67,9 +67,9 @@ inside_all f (q ∷ qs) = inside_all (inside f q) qs
 
 -- what a quantifier becomes
 unfoldable pub becomes : Frame → Quantifier → List Quantifier
-becomes f (intQ some) = intQ some ∷ []
-becomes f (setQ some) = replicate (dbl f.regions) (countQ some)
-becomes f (countQ some) = countQ some ∷ []
+becomes f (int_q some) = int_q some ∷ []
+becomes f (set_q some) = replicate (dbl f.regions) (count_q some)
+becomes f (count_q some) = count_q some ∷ []
 
 unfoldable pub emit_quantifiers : Frame → List Quantifier → List Quantifier
 emit_quantifiers f [] = []
@@ -124,7 +124,7 @@ run_of f k new pat (card a) = card_run f.place k (covered 0 f.regions (pat a))
 run_of f k new pat (equal a b) = equal (new a) (new b) ∷ []
 run_of f k new pat (less a b) = less (new a) (new b) ∷ []
 run_of f k new pat (divided c b) = divided c (new b) ∷ []
-run_of f k new pat (setEqual a b) =
+run_of f k new pat (set_equal a b) =
     both_run f.place k (covered 0 f.regions (minus (pat a) (pat b))) (covered 0 f.regions (minus (pat b) (pat a)))
 run_of f k new pat (subset a b) = empty_run f.place k (covered 0 f.regions (minus (pat a) (pat b)))
 run_of f k new pat (conj a b) = conj (new a) (new b) ∷ []
@@ -150,7 +150,7 @@ pattern_of f pat (card a) = none
 pattern_of f pat (equal a b) = none
 pattern_of f pat (less a b) = none
 pattern_of f pat (divided c b) = none
-pattern_of f pat (setEqual a b) = none
+pattern_of f pat (set_equal a b) = none
 pattern_of f pat (subset a b) = none
 pattern_of f pat (conj a b) = none
 pattern_of f pat (disj a b) = none
@@ -220,10 +220,10 @@ join_all run b = record { nodes = nodes ++ neg (last 0 nodes) ∷ disj (length n
     nodes = b.nodes ++ run
 
 abbrev pub join : Frame → Quantifier → Body → Body
-join f (intQ some) b = b
-join f (setQ true) b = join_some (split_run f (length b.nodes)) b
-join f (setQ false) b = join_all (split_run f (length b.nodes)) b
-join f (countQ some) b = b
+join f (int_q some) b = b
+join f (set_q true) b = join_some (split_run f (length b.nodes)) b
+join f (set_q false) b = join_all (split_run f (length b.nodes)) b
+join f (count_q some) b = b
 
 -- the constraints of the quantifiers from the innermost to the outermost
 unfoldable pub close : Frame → List Quantifier → Body → Body

@@ -8,7 +8,7 @@ use native.Mathlib.Omega.{arith}
 use borrow.Author.Tests.{ltb-false}
 use lib.IntN.{pos, nat_abs}
 use lib.ListN.{length, get_or, length-append}
-use Rattle.checker.specs.Claim.{Node, set_var, empty, whole, union, inter, compl, num_var, const, maxc, sum, diff, multiple, card, equal, less, divided, setEqual, subset, conj, disj, neg, unknown, Quantifier, intQ, setQ, countQ, Claim}
+use Rattle.checker.specs.Claim.{Node, set_var, empty, whole, union, inter, compl, num_var, const, maxc, sum, diff, multiple, card, equal, less, divided, set_equal, subset, conj, disj, neg, unknown, Quantifier, int_q, set_q, count_q, Claim}
 use Rattle.checker.specs.Meaning.{Value, truth, as_num, num_at, value_of, values}
 use Rattle.checker.proofs.Search.{first_none}
 use Rattle.region.specs.Regions.{over, regions}
@@ -39,12 +39,12 @@ more vs bs v b u h = record { long = simp length-append (omega (arith, u.long));
 pub final_num : (qs : List Quantifier) (q : ℕ) → num_at (final_values qs) q ≡ pos 0
 unfolding final_values num_at
 final_num [] q = refl
-final_num (intQ some ∷ qs) zero = refl
-final_num (intQ some ∷ qs) (suc q) = final_num qs q
-final_num (setQ some ∷ qs) zero = refl
-final_num (setQ some ∷ qs) (suc q) = final_num qs q
-final_num (countQ some ∷ qs) zero = refl
-final_num (countQ some ∷ qs) (suc q) = final_num qs q
+final_num (int_q some ∷ qs) zero = refl
+final_num (int_q some ∷ qs) (suc q) = final_num qs q
+final_num (set_q some ∷ qs) zero = refl
+final_num (set_q some ∷ qs) (suc q) = final_num qs q
+final_num (count_q some ∷ qs) zero = refl
+final_num (count_q some ∷ qs) (suc q) = final_num qs q
 
 module _ (qs : List Quantifier) (cs : List ℕ) (N : ℕ) (total : over (λ r. true) cs ≡ N) where
   value_under : (vs : List Value) (bs : List ℕ) → Under vs bs → (n : Node) → nat_abs (as_num (value_of (regions cs) (final_values qs) vs n)) ≤ bound_of N bs n
@@ -65,7 +65,7 @@ module _ (qs : List Quantifier) (cs : List ℕ) (N : ℕ) (total : over (λ r. t
   value_under vs bs u (equal a b) = zero-le
   value_under vs bs u (less a b) = zero-le
   value_under vs bs u (divided c b) = zero-le
-  value_under vs bs u (setEqual a b) = zero-le
+  value_under vs bs u (set_equal a b) = zero-le
   value_under vs bs u (subset a b) = zero-le
   value_under vs bs u (conj a b) = zero-le
   value_under vs bs u (disj a b) = zero-le

@@ -10,7 +10,7 @@ use lib.IntN.{ℤ}
 use lib.ListN.{length, get_or, take}
 use lib.Seq.{get_or-take, length-take-le}
 use Rattle.checker.specs.declared.Sort.TheVariants.{ASet}
-use Rattle.checker.specs.Claim.{Node, set_var, empty, whole, union, inter, compl, num_var, const, maxc, sum, diff, multiple, card, equal, less, divided, setEqual, subset, conj, disj, neg, unknown, Claim}
+use Rattle.checker.specs.Claim.{Node, set_var, empty, whole, union, inter, compl, num_var, const, maxc, sum, diff, multiple, card, equal, less, divided, set_equal, subset, conj, disj, neg, unknown, Claim}
 use Rattle.checker.specs.Kinds.{number, sort_table, is_set, node_of}
 use Rattle.checker.specs.Sorts.{sort, sets, Is}
 use Rattle.checker.specs.Meaning.{Set, Value, truth, as_set, set_at, World, value_of}
@@ -78,7 +78,7 @@ set_entry w qs vs (card a) e = absurd (false≢true (ap is_set e))
 set_entry w qs vs (equal a b) e = refl
 set_entry w qs vs (less a b) e = refl
 set_entry w qs vs (divided c b) e = refl
-set_entry w qs vs (setEqual a b) e = absurd (false≢true (ap is_set e))
+set_entry w qs vs (set_equal a b) e = absurd (false≢true (ap is_set e))
 set_entry w qs vs (subset a b) e = absurd (false≢true (ap is_set e))
 set_entry w qs vs (conj a b) e = refl
 set_entry w qs vs (disj a b) e = refl
@@ -92,10 +92,10 @@ module _ (c : Claim) (i : ℕ) (inside : i < length c.nodes) (patterns : List �
   unfolding set_at
   child_covers w a (l, s) r =
       let below : a < i = rw (length-take-le i c.nodes (omega arith)) at l in
-      let is-set : sort (get_or c.nodes a unknown) ≡ ASet = rw (get_or-take i c.nodes a unknown below) at s in
+      let is_set_lem : sort (get_or c.nodes a unknown) ≡ ASet = rw (get_or-take i c.nodes a unknown below) at s in
       filled.entry w a below r
       ∙ ap (λ (v : Set). ltb r (2 ^ sets c.quantifiers) && v r)
-      (sym (set_entry w (final_values c.quantifiers) (take a (node_values w c)) (get_or c.nodes a unknown) is-set)
+      (sym (set_entry w (final_values c.quantifiers) (take a (node_values w c)) (get_or c.nodes a unknown) is_set_lem)
       ∙ ap as_set (sym (value_at w c a (omega arith)) ∙ sym (get_or-take i (node_values w c) a (truth false) below)))
 
   -- one entry more

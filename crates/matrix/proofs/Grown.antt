@@ -6,7 +6,7 @@ use native.Mathlib.Nat.{div-one}
 use native.Mathlib.Numerals.{add-one}
 use lib.IntN.{pos}
 use lib.Pow.{shr-shr}
-use Rattle.checker.specs.Claim.{Quantifier, intQ, setQ, countQ}
+use Rattle.checker.specs.Claim.{Quantifier, int_q, set_q, count_q}
 use Rattle.checker.specs.Sorts.{sets}
 use Rattle.checker.specs.Meaning.{Value, set, num, truth}
 use Rattle.region.specs.Regions.{half, odd}
@@ -16,9 +16,9 @@ use Rattle.matrix.specs.Final.{final_values}
 -- The values of the quantifiers once those of qs are bound too. A number's value does not matter.
 unfoldable pub grown : List Quantifier → List Value → List Value
 grown [] vs = vs
-grown (intQ some ∷ qs) vs = grown qs (vs ++ num (pos 0) ∷ [])
-grown (setQ some ∷ qs) vs = grown qs (grow vs)
-grown (countQ some ∷ qs) vs = grown qs (vs ++ num (pos 0) ∷ [])
+grown (int_q some ∷ qs) vs = grown qs (vs ++ num (pos 0) ∷ [])
+grown (set_q some ∷ qs) vs = grown qs (grow vs)
+grown (count_q some ∷ qs) vs = grown qs (vs ++ num (pos 0) ∷ [])
 
 -- each region is split into 2 ^ m
 abbrev pub deep : ℕ → Value → Value
@@ -52,9 +52,9 @@ module _ (qs : List Quantifier) (vs : List Value) where
 pub grown_is : (qs : List Quantifier) (vs : List Value) → grown qs vs ≡ map (deep (sets qs)) vs ++ final_values qs
 unfolding grown final_values sets
 grown_is [] vs = sym (append-nil (map (deep 0) vs) ∙ deep_none vs)
-grown_is (intQ some ∷ qs) vs = grown_is qs (vs ++ num (pos 0) ∷ []) ∙ with_number qs vs
-grown_is (setQ some ∷ qs) vs = grown_is qs (grow vs) ∙ with_set_lem qs vs
-grown_is (countQ some ∷ qs) vs = grown_is qs (vs ++ num (pos 0) ∷ []) ∙ with_number qs vs
+grown_is (int_q some ∷ qs) vs = grown_is qs (vs ++ num (pos 0) ∷ []) ∙ with_number qs vs
+grown_is (set_q some ∷ qs) vs = grown_is qs (grow vs) ∙ with_set_lem qs vs
+grown_is (count_q some ∷ qs) vs = grown_is qs (vs ++ num (pos 0) ∷ []) ∙ with_number qs vs
 
 pub grown_final : (qs : List Quantifier) → grown qs [] ≡ final_values qs
 grown_final qs = grown_is qs []

@@ -12,7 +12,7 @@ use lib.ListN.{length, get_or, take, set}
 use lib.Seq.{get_or-take, get_or-set_same, get_or-set_other, length-take-le}
 use Rattle.checker.specs.declared.Sort.{Sort}
 use Rattle.checker.specs.declared.Sort.TheVariants.{ATerm, AFormula}
-use Rattle.checker.specs.Claim.{Node, set_var, empty, whole, union, inter, compl, num_var, const, maxc, sum, diff, multiple, card, equal, less, divided, setEqual, subset, conj, disj, neg, unknown, Quantifier, Claim}
+use Rattle.checker.specs.Claim.{Node, set_var, empty, whole, union, inter, compl, num_var, const, maxc, sum, diff, multiple, card, equal, less, divided, set_equal, subset, conj, disj, neg, unknown, Quantifier, Claim}
 use Rattle.checker.specs.Words.{word}
 use Rattle.checker.specs.Sorts.{sort, sets, Is, Fits, AllFit}
 use Rattle.checker.specs.Meaning.{Value, truth, as_num, as_truth, truth_at, eq_z, World, value_of, matrix}
@@ -83,7 +83,7 @@ work_small N p xs v h (card a) s = term_small v h _ s
 work_small N p xs v h (equal a b) s = formula_small v h _ s
 work_small N p xs v h (less a b) s = formula_small v h _ s
 work_small N p xs v h (divided c b) s = formula_small v h _ s
-work_small N p xs v h (setEqual a b) s = formula_small v h _ s
+work_small N p xs v h (set_equal a b) s = formula_small v h _ s
 work_small N p xs v h (subset a b) s = formula_small v h _ s
 work_small N p xs v h (conj a b) s = formula_small v h _ s
 work_small N p xs v h (disj a b) s = formula_small v h _ s
@@ -110,7 +110,7 @@ module _ (P R : ℕ → Type 0) (done : List Node) (f : (a : ℕ) → Is ATerm d
   each_child qs (equal a b) fit r = (f a fit.0 r.0, (f b fit.1 r.1.0, tt))
   each_child qs (less a b) fit r = (f a fit.0 r.0, (f b fit.1 r.1.0, tt))
   each_child qs (divided c b) fit r = (f b fit r.0, tt)
-  each_child qs (setEqual a b) fit r = tt
+  each_child qs (set_equal a b) fit r = tt
   each_child qs (subset a b) fit r = tt
   each_child qs (conj a b) fit r = (g a fit.0 r.0, (g b fit.1 r.1.0, tt))
   each_child qs (disj a b) fit r = (g a fit.0 r.0, (g b fit.1 r.1.0, tt))

@@ -10,7 +10,7 @@ use lib.Dec.{eqb}
 use lib.IntN.{ℤ}
 use lib.ListN.{length, get_or, drop}
 use lib.Seq.{drop-cons}
-use Rattle.checker.specs.Claim.{Quantifier, intQ, setQ, countQ}
+use Rattle.checker.specs.Claim.{Quantifier, int_q, set_q, count_q}
 use Rattle.checker.specs.Kinds.{number, quantifier_of}
 use Rattle.checker.specs.Sorts.{is_set_q, sets}
 use Rattle.checker.specs.Meaning.{set_at}
@@ -19,7 +19,7 @@ use Rattle.matrix.specs.Final.{final_values}
 
 -- ---- quantifiers by their words
 
-kind_sets : (m : ℕ) → (m ≡ 3 → ⊥) → eqb m 4 ≡ is_set_q (get_or (intQ true ∷ intQ true ∷ intQ false ∷ setQ true ∷ setQ false ∷ countQ true ∷ countQ false ∷ []) m (intQ true))
+kind_sets : (m : ℕ) → (m ≡ 3 → ⊥) → eqb m 4 ≡ is_set_q (get_or (int_q true ∷ int_q true ∷ int_q false ∷ set_q true ∷ set_q false ∷ count_q true ∷ count_q false ∷ []) m (int_q true))
 kind_sets zero h = refl
 kind_sets (suc zero) h = refl
 kind_sets (suc (suc zero)) h = refl
@@ -41,31 +41,31 @@ kind_4 z h = kind_sets (number z) h
 
 sets-cons : (q : Quantifier) (qs : List Quantifier) → sets (q ∷ qs) ≡ sets qs + cond (is_set_q q) 1 0
 unfolding sets
-sets-cons (intQ some) qs = omega arith
-sets-cons (setQ some) qs = omega arith
-sets-cons (countQ some) qs = omega arith
+sets-cons (int_q some) qs = omega arith
+sets-cons (set_q some) qs = omega arith
+sets-cons (count_q some) qs = omega arith
 
 module _ (qs : List Quantifier) (j : ℕ) (h : j < length qs) where
-  from : sets (drop j qs) ≡ sets (drop (j + 1) qs) + cond (is_set_q (get_or qs j (intQ true))) 1 0
-  from = rw (drop-cons qs j (intQ true) h, add-one j) (sets-cons (get_or qs j (intQ true)) (drop (suc j) qs))
+  from : sets (drop j qs) ≡ sets (drop (j + 1) qs) + cond (is_set_q (get_or qs j (int_q true))) 1 0
+  from = rw (drop-cons qs j (int_q true) h, add-one j) (sets-cons (get_or qs j (int_q true)) (drop (suc j) qs))
 
-  pub sets_yes : is_set_q (get_or qs j (intQ true)) ≡ true → sets (drop j qs) ≡ sets (drop (j + 1) qs) + 1
+  pub sets_yes : is_set_q (get_or qs j (int_q true)) ≡ true → sets (drop j qs) ≡ sets (drop (j + 1) qs) + 1
   sets_yes e = from ∙ rw e
 
-  pub sets_no : is_set_q (get_or qs j (intQ true)) ≡ false → sets (drop j qs) ≡ sets (drop (j + 1) qs)
+  pub sets_no : is_set_q (get_or qs j (int_q true)) ≡ false → sets (drop j qs) ≡ sets (drop (j + 1) qs)
   sets_no e = from ∙ rw e (omega arith)
 
 -- ---- the regions of quantifier q's set
 
-covers-suc : (qs : List Quantifier) (q r : ℕ) → is_set_q (get_or qs q (intQ true)) ≡ true → set_at (final_values qs) q r ≡ covers r (sets (drop (suc q) qs))
+covers-suc : (qs : List Quantifier) (q r : ℕ) → is_set_q (get_or qs q (int_q true)) ≡ true → set_at (final_values qs) q r ≡ covers r (sets (drop (suc q) qs))
 unfolding final_values set_at covers
 covers-suc [] q r e = absurd (true≢false (sym e))
-covers-suc (intQ some ∷ qs) zero r e = absurd (true≢false (sym e))
-covers-suc (intQ some ∷ qs) (suc q) r e = covers-suc qs q r e
-covers-suc (setQ some ∷ qs) zero r e = refl
-covers-suc (setQ some ∷ qs) (suc q) r e = covers-suc qs q r e
-covers-suc (countQ some ∷ qs) zero r e = absurd (true≢false (sym e))
-covers-suc (countQ some ∷ qs) (suc q) r e = covers-suc qs q r e
+covers-suc (int_q some ∷ qs) zero r e = absurd (true≢false (sym e))
+covers-suc (int_q some ∷ qs) (suc q) r e = covers-suc qs q r e
+covers-suc (set_q some ∷ qs) zero r e = refl
+covers-suc (set_q some ∷ qs) (suc q) r e = covers-suc qs q r e
+covers-suc (count_q some ∷ qs) zero r e = absurd (true≢false (sym e))
+covers-suc (count_q some ∷ qs) (suc q) r e = covers-suc qs q r e
 
-pub final_covers : (qs : List Quantifier) (q r : ℕ) → is_set_q (get_or qs q (intQ true)) ≡ true → set_at (final_values qs) q r ≡ covers r (sets (drop (q + 1) qs))
+pub final_covers : (qs : List Quantifier) (q r : ℕ) → is_set_q (get_or qs q (int_q true)) ≡ true → set_at (final_values qs) q r ≡ covers r (sets (drop (q + 1) qs))
 final_covers qs q r e = rw (add-one q) (covers-suc qs q r e)

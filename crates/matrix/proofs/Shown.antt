@@ -10,7 +10,7 @@ use lib.IntN.{ℤ, pos, ◌+ℤ◌, ◌-ℤ◌, ◌*ℤ◌}
 use lib.ListN.{get_or}
 use lib.Signed.{lt_z}
 use Rattle.checker.specs.declared.Sort.TheVariants.{ATerm, AFormula}
-use Rattle.checker.specs.Claim.{Node, set_var, empty, whole, union, inter, compl, num_var, const, maxc, sum, diff, multiple, card, equal, less, divided, setEqual, subset, conj, disj, neg, unknown, Quantifier}
+use Rattle.checker.specs.Claim.{Node, set_var, empty, whole, union, inter, compl, num_var, const, maxc, sum, diff, multiple, card, equal, less, divided, set_equal, subset, conj, disj, neg, unknown, Quantifier}
 use Rattle.checker.specs.Words.{word}
 use Rattle.checker.specs.Sorts.{sort, Is, Fits}
 use Rattle.checker.specs.Meaning.{Value, truth, num_at, truth_at, set_at, divides, eq_z, value_of}
@@ -67,7 +67,7 @@ module _ (done : List Node) (vs : List Value) (xs : List ℤ) where
     work_shows (equal a b) p e f r = ap₂ (λ x y. bit_z (eq_z x y)) (term a f.0 r.0) (term b f.1 r.1.0)
     work_shows (less a b) p e f r = ap₂ (λ x y. bit_z (lt_z x y)) (term a f.0 r.0) (term b f.1 r.1.0)
     work_shows (divided c b) p e f r = ap (λ y. bit_z (divides c y)) (term b f r.0)
-    work_shows (setEqual a b) p e f r =
+    work_shows (set_equal a b) p e f r =
         ap bit_z (ap (λ n. eqb n 0) (e ∙ over_exclusive cs (set_at vs a) (set_at vs b)) ∙ none_both (over (minus (set_at vs a) (set_at vs b)) cs) (over (minus (set_at vs b) (set_at vs a)) cs))
     work_shows (subset a b) p e f r = ap (λ n. bit_z (eqb n 0)) e
     work_shows (conj a b) p e f r = ap₂ (λ x y. bit_z (x && y)) (formula a f.0 r.0) (formula b f.1 r.1.0)

@@ -1,7 +1,7 @@
 -- The bound of a term at size N (01, "Refusal numbers"), which none of its values exceeds in absolute value, and the first node whose bound is
 -- too large (refusal 11). Assumes nothing.
 use Rattle.std.specs.Prelude.{Bool, List, [], ◌∷◌, ◌++◌, ℕ, ◌+◌, ◌*◌, ltb, nat_abs, length, get_or}
-use Rattle.checker.specs.Claim.{Node, set_var, empty, whole, union, inter, compl, num_var, const, maxc, sum, diff, multiple, card, equal, less, divided, setEqual, subset, conj, disj, neg, unknown, Claim}
+use Rattle.checker.specs.Claim.{Node, set_var, empty, whole, union, inter, compl, num_var, const, maxc, sum, diff, multiple, card, equal, less, divided, set_equal, subset, conj, disj, neg, unknown, Claim}
 use Rattle.checker.specs.Search.{first}
 
 abbrev pub max_bound : ℕ
@@ -25,7 +25,7 @@ bound_of N bs (card a) = N
 bound_of N bs (equal a b) = 0
 bound_of N bs (less a b) = 0
 bound_of N bs (divided c b) = 0
-bound_of N bs (setEqual a b) = 0
+bound_of N bs (set_equal a b) = 0
 bound_of N bs (subset a b) = 0
 bound_of N bs (conj a b) = 0
 bound_of N bs (disj a b) = 0

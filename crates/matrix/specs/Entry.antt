@@ -2,7 +2,7 @@
 -- Assumes nothing.
 use Rattle.std.specs.Prelude.{◌≡◌, true, false, not, ◌&&◌, ◌||◌, List, [], ℕ, ◌<◌, ◌≤◌, ◌^◌, ltb, length, get_or, take}
 use Rattle.std.specs.Bool.{xor}
-use Rattle.checker.specs.Claim.{Node, set_var, empty, whole, union, inter, compl, num_var, const, maxc, sum, diff, multiple, card, equal, less, divided, setEqual, subset, conj, disj, neg, unknown, Claim}
+use Rattle.checker.specs.Claim.{Node, set_var, empty, whole, union, inter, compl, num_var, const, maxc, sum, diff, multiple, card, equal, less, divided, set_equal, subset, conj, disj, neg, unknown, Claim}
 use Rattle.checker.specs.Sorts.{sets}
 use Rattle.checker.specs.Meaning.{Set, Value, World, set_at, values}
 use Rattle.region.specs.Regions.{minus}
@@ -28,7 +28,7 @@ entry_of qs vs (card a) = set_at vs a
 entry_of qs vs (equal a b) = λ r. false
 entry_of qs vs (less a b) = λ r. false
 entry_of qs vs (divided c b) = λ r. false
-entry_of qs vs (setEqual a b) = λ r. xor (set_at vs a r) (set_at vs b r)
+entry_of qs vs (set_equal a b) = λ r. xor (set_at vs a r) (set_at vs b r)
 entry_of qs vs (subset a b) = minus (set_at vs a) (set_at vs b)
 entry_of qs vs (conj a b) = λ r. false
 entry_of qs vs (disj a b) = λ r. false

@@ -2,7 +2,7 @@
 -- Assumes nothing.
 use Rattle.std.specs.Prelude.{Bool, not, ◌&&◌, ◌||◌, List, [], ◌∷◌, ℕ, eqb, ℤ, pos, ◌+ℤ◌, ◌-ℤ◌, ◌*ℤ◌}
 use Rattle.std.specs.Int.Signed.{lt_z}
-use Rattle.checker.specs.Claim.{Node, set_var, empty, whole, union, inter, compl, num_var, const, maxc, sum, diff, multiple, card, equal, less, divided, setEqual, subset, conj, disj, neg, unknown}
+use Rattle.checker.specs.Claim.{Node, set_var, empty, whole, union, inter, compl, num_var, const, maxc, sum, diff, multiple, card, equal, less, divided, set_equal, subset, conj, disj, neg, unknown}
 use Rattle.checker.specs.Words.{word}
 use Rattle.checker.specs.Meaning.{divides, eq_z, bit}
 
@@ -24,7 +24,7 @@ children (card a) = []
 children (equal a b) = a ∷ b ∷ []
 children (less a b) = a ∷ b ∷ []
 children (divided c b) = b ∷ []
-children (setEqual a b) = []
+children (set_equal a b) = []
 children (subset a b) = []
 children (conj a b) = a ∷ b ∷ []
 children (disj a b) = a ∷ b ∷ []
@@ -62,7 +62,7 @@ work N p xs (card a) = pos p
 work N p xs (equal a b) = bit_z (eq_z (word xs a) (word xs b))
 work N p xs (less a b) = bit_z (lt_z (word xs a) (word xs b))
 work N p xs (divided c b) = bit_z (divides c (word xs b))
-work N p xs (setEqual a b) = bit_z (eqb p 0)
+work N p xs (set_equal a b) = bit_z (eqb p 0)
 work N p xs (subset a b) = bit_z (eqb p 0)
 work N p xs (conj a b) = bit_z (says xs a && says xs b)
 work N p xs (disj a b) = bit_z (says xs a || says xs b)

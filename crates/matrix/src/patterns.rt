@@ -1,7 +1,7 @@
 // The table of patterns: one entry a node, filled once.
 ghost use Rattle.std.specs.Prelude.{◌≡◌, true, ◌+◌, ◌*◌, ◌<◌, get_or, drop};
 ghost use Rattle.checker.specs.declared.Checked.TheVariants.{Accepted};
-ghost use Rattle.checker.specs.Claim.{intQ};
+ghost use Rattle.checker.specs.Claim.{int_q};
 ghost use Rattle.checker.specs.Words.{claim_of};
 ghost use Rattle.checker.specs.Sorts.{is_set_q, sets};
 ghost use Rattle.checker.specs.Check.{check_of};
@@ -14,7 +14,7 @@ use checker::Shape;
 pub fn over_sets(words: &[i32], shape: Shape, j: usize) -> bool
     requires words_value { check_of words.now ≡ Accepted shape }
     requires j_lt_quantifiers { j < shape.quantifiers }
-    ensures { result ≡ is_set_q (get_or (claim_of words.now).quantifiers j (intQ true)) }
+    ensures { result ≡ is_set_q (get_or (claim_of words.now).quantifiers j (int_q true)) }
 {
     let kind = checker::word(words, 3 * shape.nodes + j);
     if kind == 3 {

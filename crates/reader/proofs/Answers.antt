@@ -45,33 +45,33 @@ accepted : (k : Checked) → accepts k ≡ true → (s : Shape) × (k ≡ checke
 accepted (checked.Accepted s) e = (s, refl)
 accepted (checked.Refused r) e = absurd (true≢false (sym e))
 
-same-is : {bs text : List ℕ} → bs ≡ text → same bs text ≡ true
-same-is {bs} e = rw (← e) (same_refl bs)
+same_is : {bs text : List ℕ} → bs ≡ text → same bs text ≡ true
+same_is {bs} e = rw (← e) (same_refl bs)
 
 -- ---- what the writer takes is plain, and within the limits of a scan
 
-plain-nodes : (ns : List Node) → KindsTaken Emitted ns → AllPlain ns
-plain-nodes [] t = tt
-plain-nodes (n ∷ ns) (e, es) = (e, plain-nodes ns es)
+plain_nodes : (ns : List Node) → KindsTaken Emitted ns → AllPlain ns
+plain_nodes [] t = tt
+plain_nodes (n ∷ ns) (e, es) = (e, plain_nodes ns es)
 
-takes-parts : (c : Claim) → WriterTakes c → (in_words (words_of c) ≡ true) × (accepts (check_as Emitted (words_of c)) ≡ true)
+takes_parts : (c : Claim) → WriterTakes c → (in_words (words_of c) ≡ true) × (accepts (check_as Emitted (words_of c)) ≡ true)
 unfolding takes
-takes-parts c t = (and-eq-true_iff (in_words (words_of c)) (accepts (check_as Emitted (words_of c)))).0 t
+takes_parts c t = (and-eq-true_iff (in_words (words_of c)) (accepts (check_as Emitted (words_of c)))).0 t
 
 claimed : (c : Claim) → WriterTakes c → (s : Shape) × ClaimedAs Emitted (words_of c) s
 claimed c t =
-    let (s, e) = accepted (check_as Emitted (words_of c)) (takes-parts c t).1 in
+    let (s, e) = accepted (check_as Emitted (words_of c)) (takes_parts c t).1 in
     (s, accepted_claim_as Emitted (words_of c) s e)
 
-pub taken-plain : (c : Claim) → WriterTakes c → Plain c
-taken-plain c t =
+pub taken_plain : (c : Claim) → WriterTakes c → Plain c
+taken_plain c t =
     let a = (claimed c t).1 in
-    let p : Plain (claim_of (words_of c)) = record { nodes = plain-nodes (claim_of (words_of c)).nodes a.taken.nodes; quantifiers = no_sets (claim_of (words_of c)).quantifiers a.taken.quantifiers } in
+    let p : Plain (claim_of (words_of c)) = record { nodes = plain_nodes (claim_of (words_of c)).nodes a.taken.nodes; quantifiers = no_sets (claim_of (words_of c)).quantifiers a.taken.quantifiers } in
     rw (claim_words c) at p
 
-pub taken-within : (c : Claim) → WriterTakes c → Within limits c
+pub taken_within : (c : Claim) → WriterTakes c → Within limits c
 unfolding words_of
-taken-within c t =
+taken_within c t =
     let a = (claimed c t).1 in
     let l = rw (claim_words c) at a.limited in
     let s = rw (claim_words c) at a.sorted in
@@ -79,37 +79,37 @@ taken-within c t =
       few_nodes = l.few_nodes;
       few_quantifiers = l.few_quantifiers;
       small_root = omega (arith, s.1.0, l.few_nodes);
-      small_fields = fields_small c.nodes (map quantifier_word c.quantifiers ++ trailer c) (takes-parts c t).0;
+      small_fields = fields_small c.nodes (map quantifier_word c.quantifiers ++ trailer c) (takes_parts c t).0;
     }
 
 -- ---- the promise
 
 module _ (text : List ℕ) where
   -- The claim that the writer takes and that has this text, if there is one, is what is scanned.
-  scanned-reads : (c : Claim) → Reads WriterTakes text c → Reads WriterTakes text (scan limits text)
-  scanned-reads = reads_scan WriterTakes taken-plain text limits taken-within
+  scanned_reads : (c : Claim) → Reads WriterTakes text c → Reads WriterTakes text (scan limits text)
+  scanned_reads = reads_scan WriterTakes taken_plain text limits taken_within
 
-  scanned-is : (c : Claim) → Reads WriterTakes text c → scan limits text ≡ c
-  scanned-is c r = reads_once WriterTakes taken-plain text (scan limits text) c (scanned-reads c r) r
+  scanned_is : (c : Claim) → Reads WriterTakes text c → scan limits text ≡ c
+  scanned_is c r = reads_once WriterTakes taken_plain text (scan limits text) c (scanned_reads c r) r
 
-  answer-given : (c : Claim) → Reads WriterTakes text c → (room : ℕ) → answer c text room ≡ given c room
+  answer_given : (c : Claim) → Reads WriterTakes text c → (room : ℕ) → answer c text room ≡ given c room
   unfolding answer
-  answer-given c (t, e) room = rw (t, same-is e)
+  answer_given c (t, e) room = rw (t, same_is e)
 
   -- A text that the writer can have written is answered by its claim.
-  pub read-given : (c : Claim) → Reads WriterTakes text c → (room : ℕ) → read_of text room ≡ given c room
+  pub read_given : (c : Claim) → Reads WriterTakes text c → (room : ℕ) → read_of text room ≡ given c room
   unfolding read_of
-  read-given c r room = ap (λ d. answer d text room) (scanned-is c r) ∙ answer-given c r room
+  read_given c r room = ap (λ d. answer d text room) (scanned_is c r) ∙ answer_given c r room
 
   -- And its words are in the output slice, if that has room.
-  pub out-given : (c : Claim) → Reads WriterTakes text c → (out : List ℤ) → out_after text out ≡ held_after (given c (length out)) c out
+  pub out_given : (c : Claim) → Reads WriterTakes text c → (out : List ℤ) → out_after text out ≡ held_after (given c (length out)) c out
   unfolding out_after
-  out-given c r out = rw (read-given c r (length out), scanned-is c r)
+  out_given c r out = rw (read_given c r (length out), scanned_is c r)
 
   -- Every text is one that the writer can have written, or it is answered by 21.
-  pub read-or-21 : ((c : Claim) × Reads WriterTakes text c) ⊎ ((room : ℕ) → read_of text room ≡ Refused (refusal 21 0))
+  pub read_or_21 : ((c : Claim) × Reads WriterTakes text c) ⊎ ((room : ℕ) → read_of text room ≡ Refused (refusal 21 0))
   unfolding read_of answer
-  read-or-21 = at (takes (scan limits text) && same (text_of (scan limits text)) text) refl
+  read_or_21 = at (takes (scan limits text) && same (text_of (scan limits text)) text) refl
     where
       at : (b : Bool) → (takes (scan limits text) && same (text_of (scan limits text)) text) ≡ b
           → ((c : Claim) × Reads WriterTakes text c) ⊎ ((room : ℕ) → cond (takes (scan limits text) && same (text_of (scan limits text)) text) (given (scan limits text) room) (Refused (refusal 21 0)) ≡ Refused (refusal 21 0))
@@ -120,55 +120,55 @@ module _ (text : List ℕ) where
 
   -- A text that the writer cannot have written is refused by 21.
   pub read_none : ((c : Claim) → Reads WriterTakes text c → ⊥) → (room : ℕ) → read_of text room ≡ Refused (refusal 21 0)
-  read_none n room = at read-or-21
+  read_none n room = at read_or_21
     where
       at : ((c : Claim) × Reads WriterTakes text c) ⊎ ((room : ℕ) → read_of text room ≡ Refused (refusal 21 0)) → read_of text room ≡ Refused (refusal 21 0)
       at (inl (c, r)) = absurd (n c r)
       at (inr f) = f room
 
   -- A refusal leaves the output slice as it was.
-  pub out-refused : (out : List ℤ) {r : Refusal} → read_of text (length out) ≡ Refused r → out ≡ out_after text out
+  pub out_refused : (out : List ℤ) {r : Refusal} → read_of text (length out) ≡ Refused r → out ≡ out_after text out
   unfolding out_after held_after
-  out-refused out e = rw e
+  out_refused out e = rw e
 
   -- ---- the words that were put
 
   -- Words that the writer takes and writes as this text are a claim that it takes, and that has this text.
-  written-reads : (ws : List ℤ) → in_words ws ≡ true → writes ws text ≡ true → Reads WriterTakes text (claim_of ws)
+  written_reads : (ws : List ℤ) → in_words ws ≡ true → writes ws text ≡ true → Reads WriterTakes text (claim_of ws)
   unfolding writes takes
-  written-reads ws i h =
+  written_reads ws i h =
       let (k, e) = (and-eq-true_iff (accepts (check_as Emitted ws)) (same (text_of (claim_of ws)) text)).0 h in
       let (s, f) = accepted (check_as Emitted ws) k in
       let w = (accepted_claim_as Emitted ws s f).words in
       (rw w (joint i k), same_true (text_of (claim_of ws)) text e)
 
-  reads-written : (c : Claim) → Reads WriterTakes text c → writes (map held (words_of c)) text ≡ true
+  reads_written : (c : Claim) → Reads WriterTakes text c → writes (map held (words_of c)) text ≡ true
   unfolding writes
-  reads-written c (t, e) =
-      let (i, k) = takes-parts c t in
-      rw (all_held (words_of c) i, claim_words c) (joint k (same-is e))
+  reads_written c (t, e) =
+      let (i, k) = takes_parts c t in
+      rw (all_held (words_of c) i, claim_words c) (joint k (same_is e))
 
-  pub writes-is : writes (map held (words_of (scan limits text))) text ≡ (takes (scan limits text) && same (text_of (scan limits text)) text)
-  writes-is =
+  pub writes_is : writes (map held (words_of (scan limits text))) text ≡ (takes (scan limits text) && same (text_of (scan limits text)) text)
+  writes_is =
       let c = scan limits text in
       alike (writes (map held (words_of c)) text) (takes c && same (text_of c) text)
-      (λ h. let (t, e) = scanned-reads _ (written-reads (map held (words_of c)) (all_held_in (words_of c)) h) in joint t (same-is e))
-      (λ h. let (t, s) = (and-eq-true_iff (takes c) (same (text_of c) text)).0 h in reads-written c (t, same_true (text_of c) text s))
+      (λ h. let (t, e) = scanned_reads _ (written_reads (map held (words_of c)) (all_held_in (words_of c)) h) in joint t (same_is e))
+      (λ h. let (t, s) = (and-eq-true_iff (takes c) (same (text_of c) text)).0 h in reads_written c (t, same_true (text_of c) text s))
 
   module _ (ws : List ℤ) (e : ws ≡ map held (words_of (scan limits text))) where
     told : (b : Bool) → writes ws text ≡ b → (takes (scan limits text) && same (text_of (scan limits text)) text) ≡ b
-    told b h = sym writes-is ∙ ap (λ v. writes v text) (sym e) ∙ h
+    told b h = sym writes_is ∙ ap (λ v. writes v text) (sym e) ∙ h
 
     count : length ws ≡ length (words_of (scan limits text))
     count = ap length e ∙ length-map (words_of (scan limits text)) held
 
-    pub answered-21 : writes ws text ≡ false → (room : ℕ) → read_of text room ≡ Refused (refusal 21 0)
+    pub answered_21 : writes ws text ≡ false → (room : ℕ) → read_of text room ≡ Refused (refusal 21 0)
     unfolding read_of answer
-    answered-21 h room = rw (told false h)
+    answered_21 h room = rw (told false h)
 
-    pub answered-8 : writes ws text ≡ true → (room : ℕ) → room < length ws → read_of text room ≡ Refused (refusal 8 (length ws))
+    pub answered_8 : writes ws text ≡ true → (room : ℕ) → room < length ws → read_of text room ≡ Refused (refusal 8 (length ws))
     unfolding read_of answer given
-    answered-8 h room l =
+    answered_8 h room l =
         let k : room < length (words_of (scan limits text)) = omega (arith, count) in
         rw (told true h, lt-ltb room (length (words_of (scan limits text))) k, count)
 
@@ -181,11 +181,11 @@ module _ (text : List ℕ) where
     words_are : writes ws text ≡ true → ws ≡ words_of (scan limits text)
     words_are h =
         let (t, s) = (and-eq-true_iff (takes (scan limits text)) (same (text_of (scan limits text)) text)).0 (told true h) in
-        e ∙ all_held (words_of (scan limits text)) (takes-parts (scan limits text) t).0
+        e ∙ all_held (words_of (scan limits text)) (takes_parts (scan limits text) t).0
 
-    pub out-answered : writes ws text ≡ true → (out : List ℤ) → length ws ≤ length out → ws ++ drop (length ws) out ≡ out_after text out
+    pub out_answered : writes ws text ≡ true → (out : List ℤ) → length ws ≤ length out → ws ++ drop (length ws) out ≡ out_after text out
     unfolding out_after held_after
-    out-answered h out l = rw (answered h (length out) l) (ap (λ v. v ++ drop (length ws) out) (words_are h))
+    out_answered h out l = rw (answered h (length out) l) (ap (λ v. v ++ drop (length ws) out) (words_are h))
 
 -- ---- there and back
 
@@ -198,4 +198,4 @@ read_back ws s i e out l =
     let w = (accepted_claim_as Emitted ws s e).words in
     let t : WriterTakes c = rw (w, i, e) in
     let room : given c (length out) ≡ Words (length ws) = rw (w, le-ltb (length out) (length ws) l) in
-    (read-given (text_of c) c (t, refl) (length out) ∙ room, out-given (text_of c) c (t, refl) out ∙ rw (room, w))
+    (read_given (text_of c) c (t, refl) (length out) ∙ room, out_given (text_of c) c (t, refl) out ∙ rw (room, w))

@@ -11,7 +11,7 @@ use Rattle.checker.specs.Words.{nodes_words, quantifier_word, trailer, words_of}
 use Rattle.lent.specs.Write.{Wrote}
 use Rattle.lent.proofs.Writing.{wrote_then, wrote_long}
 use Rattle.sentence.specs.Lines.{opening}
-use Rattle.sentence.specs.Scan.{is, Found, found, before, Limits, number_from, lineFrom, nodesFrom, quantifierFrom, quantifiersFrom, scan}
+use Rattle.sentence.specs.Scan.{is, Found, found, before, Limits, number_from, line_from, nodes_from, quantifier_from, quantifiers_from, scan}
 use Rattle.scanner.specs.declared.Numeral.{Numeral}
 use Rattle.scanner.specs.Places.{most, At, NumeralAt}
 use Rattle.reader.specs.declared.table.Run.{Run}
@@ -25,26 +25,26 @@ fewer : {A : Type 0} (t : Bool) (x : Found A) (g : Found (List A)) (bs : List �
 fewer true x g bs n h = omega arith
 fewer false x g bs n h = omega arith
 
-pub nodes_few : (n : ℕ) (bs : List ℕ) → length (nodesFrom most n bs).value ≤ n
-unfolding nodesFrom
+pub nodes_few : (n : ℕ) (bs : List ℕ) → length (nodes_from most n bs).value ≤ n
+unfolding nodes_from
 nodes_few zero bs = omega arith
-nodes_few (suc n) bs = fewer (is 0 "(" bs) (lineFrom most bs) (nodesFrom most n (lineFrom most bs).rest) bs n (nodes_few n (lineFrom most bs).rest)
+nodes_few (suc n) bs = fewer (is 0 "(" bs) (line_from most bs) (nodes_from most n (line_from most bs).rest) bs n (nodes_few n (line_from most bs).rest)
 
-pub quantifiers_few : (n : ℕ) (bs : List ℕ) → length (quantifiersFrom most n bs).value ≤ n
-unfolding quantifiersFrom
+pub quantifiers_few : (n : ℕ) (bs : List ℕ) → length (quantifiers_from most n bs).value ≤ n
+unfolding quantifiers_from
 quantifiers_few zero bs = omega arith
 quantifiers_few (suc n) bs =
-    fewer (is 1 "e" bs || is 1 "f" bs) (quantifierFrom most bs) (quantifiersFrom most n (quantifierFrom most bs).rest) bs n (quantifiers_few n (quantifierFrom most bs).rest)
+    fewer (is 1 "e" bs || is 1 "f" bs) (quantifier_from most bs) (quantifiers_from most n (quantifier_from most bs).rest) bs n (quantifiers_few n (quantifier_from most bs).rest)
 
 -- ---- the claim, by the places of its parts
 
 scanned : (lim : Limits) (text : List ℕ) (start nodes root : ℕ) → drop (length opening) text ≡ drop start text
-    → (quantifiersFrom lim.number lim.quantifiers (drop start text)).rest ≡ drop nodes text
-    → drop 1 (nodesFrom lim.number lim.nodes (drop nodes text)).rest ≡ drop root text
+    → (quantifiers_from lim.number lim.quantifiers (drop start text)).rest ≡ drop nodes text
+    → drop 1 (nodes_from lim.number lim.nodes (drop nodes text)).rest ≡ drop root text
     → scan lim text
     ≡ record {
-      nodes = (nodesFrom lim.number lim.nodes (drop nodes text)).value;
-      quantifiers = (quantifiersFrom lim.number lim.quantifiers (drop start text)).value;
+      nodes = (nodes_from lim.number lim.nodes (drop nodes text)).value;
+      quantifiers = (quantifiers_from lim.number lim.quantifiers (drop start text)).value;
       root = (number_from lim.number 0 (drop root text)).value;
     }
 unfolding scan
@@ -62,17 +62,17 @@ wrote_at e f w = rw (← e, ← f) w
 
 module _ (text : List ℕ) {l l₁ l₂ l₃ l₄ : List ℤ} {start root n : ℕ} {q ns qs : Run} {r : Numeral}
     (from : At text (drop 75 text) start)
-    (first : RunPut (map quantifier_word) 1 text (quantifiersFrom most limits.quantifiers (drop start text)) l 0 l₁ q)
-    (nodes : RunPut nodes_words 3 text (nodesFrom most limits.nodes (drop q.next text)) l₁ 0 l₂ ns)
-    (second : RunPut (map quantifier_word) 1 text (quantifiersFrom most limits.quantifiers (drop start text)) l₂ (3 * ns.count) l₃ qs)
+    (first : RunPut (map quantifier_word) 1 text (quantifiers_from most limits.quantifiers (drop start text)) l 0 l₁ q)
+    (nodes : RunPut nodes_words 3 text (nodes_from most limits.nodes (drop q.next text)) l₁ 0 l₂ ns)
+    (second : RunPut (map quantifier_word) 1 text (quantifiers_from most limits.quantifiers (drop start text)) l₂ (3 * ns.count) l₃ qs)
     (name : At text (drop 1 (drop ns.next text)) root)
     (number : NumeralAt text (number_from most 0 (drop root text)) r)
     (last : Wrote l₃ (3 * ns.count + qs.count) (trailer_words r.value ns.count qs.count) l₄ n)
   where
     claim_is : scan limits text
         ≡ record {
-          nodes = (nodesFrom most limits.nodes (drop q.next text)).value;
-          quantifiers = (quantifiersFrom most limits.quantifiers (drop start text)).value;
+          nodes = (nodes_from most limits.nodes (drop q.next text)).value;
+          quantifiers = (quantifiers_from most limits.quantifiers (drop start text)).value;
           root = (number_from most 0 (drop root text)).value;
         }
     claim_is = scanned limits text start q.next root from.rest first.ends.rest (ap (drop 1) nodes.ends.rest ∙ name.rest)
@@ -96,9 +96,9 @@ module _ (text : List ℕ) {l l₁ l₂ l₃ l₄ : List ℤ} {start root n : �
 
 -- ---- how many there are
 
-pub nodes_run : (n : ℕ) (bs : List ℕ) {text : List ℕ} {l l' : List ℤ} {from : ℕ} {r : Run} → RunPut nodes_words 3 text (nodesFrom most n bs) l from l' r → r.count ≤ n
+pub nodes_run : (n : ℕ) (bs : List ℕ) {text : List ℕ} {l l' : List ℤ} {from : ℕ} {r : Run} → RunPut nodes_words 3 text (nodes_from most n bs) l from l' r → r.count ≤ n
 nodes_run n bs p = omega (arith, nodes_few n bs, p.count)
 
 pub quantifiers_run : (n : ℕ) (bs : List ℕ) {text : List ℕ} {l l' : List ℤ} {from : ℕ} {r : Run}
-    → RunPut (map quantifier_word) 1 text (quantifiersFrom most n bs) l from l' r → r.count ≤ n
+    → RunPut (map quantifier_word) 1 text (quantifiers_from most n bs) l from l' r → r.count ≤ n
 quantifiers_run n bs p = omega (arith, quantifiers_few n bs, p.count)

@@ -3,7 +3,7 @@
 ghost use Rattle.std.specs.Prelude.{◌≡◌, [], ◌∷◌, map, ◌+◌, ◌*◌, ◌≤◌, length, take, drop};
 ghost use Rattle.checker.specs.Words.{nodes_words, quantifier_word, words_of};
 ghost use Rattle.lent.specs.Write.{Room, Wrote};
-ghost use Rattle.sentence.specs.Scan.{nodesFrom, quantifiersFrom, scan};
+ghost use Rattle.sentence.specs.Scan.{nodes_from, quantifiers_from, scan};
 ghost use Rattle.scanner.specs.Places.{most, signed};
 ghost use Rattle.reader.specs.Held.{held};
 ghost use Rattle.reader.specs.Runs.{limits, most_words, line_words, trailer_words, RunPut};
@@ -64,7 +64,7 @@ pub struct Run {
 fn put_nodes(text: &[u8], at: usize, words: &mut [i32]) -> Run
     requires at_in_bounds { at ≤ length text.now }
     requires nodes_in_bounds { 3 * limits.nodes ≤ length words.old }
-    ensures { RunPut nodes_words 3 text.now (nodesFrom most limits.nodes (drop at text.now)) words.old 0 words.new result }
+    ensures { RunPut nodes_words 3 text.now (nodes_from most limits.nodes (drop at text.now)) words.old 0 words.new result }
 {
     let mut here = at;
     let mut i = 0;
@@ -90,7 +90,7 @@ fn put_nodes(text: &[u8], at: usize, words: &mut [i32]) -> Run
 fn put_quantifiers(text: &[u8], at: usize, words: &mut [i32], from: usize) -> Run
     requires at_in_bounds { at ≤ length text.now }
     requires quantifiers_in_bounds { from + limits.quantifiers ≤ length words.old }
-    ensures { RunPut (map quantifier_word) 1 text.now (quantifiersFrom most limits.quantifiers (drop at text.now)) words.old from words.new result }
+    ensures { RunPut (map quantifier_word) 1 text.now (quantifiers_from most limits.quantifiers (drop at text.now)) words.old from words.new result }
 {
     let mut here = at;
     let mut i = 0;

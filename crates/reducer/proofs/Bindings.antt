@@ -8,7 +8,7 @@ use native.Mathlib.Omega.{arith}
 use lib.IntN.{ℤ, pos, ◌+ℤ◌}
 use lib.ListN.{length, get_or, length-append, replicate, length-map, get_or-map}
 use lib.Seq.{get_or_at, get_or-append-add}
-use Rattle.checker.specs.Claim.{Quantifier, intQ, setQ, countQ}
+use Rattle.checker.specs.Claim.{Quantifier, int_q, set_q, count_q}
 use Rattle.checker.specs.Sorts.{is_set_q, Binds, sets}
 use Rattle.checker.specs.Meaning.{Value, as_set, as_num, set_at, num_at, eq_z, World, set, num, truth}
 use Rattle.region.specs.Regions.{half, odd, dbl, Split, over}
@@ -23,7 +23,7 @@ use Rattle.reducer.proofs.Bodies.{held}
 use Rattle.reducer.proofs.Splits.{every_same, sums, splits}
 
 -- the emission's quantifiers bind no sets
-sets_row : (m : ℕ) (some : Bool) (qs : List Quantifier) → sets (replicate m (countQ some) ++ qs) ≡ sets qs
+sets_row : (m : ℕ) (some : Bool) (qs : List Quantifier) → sets (replicate m (count_q some) ++ qs) ≡ sets qs
 unfolding sets
 sets_row zero some qs = refl
 sets_row (suc m) some qs = sets_row m some qs
@@ -31,9 +31,9 @@ sets_row (suc m) some qs = sets_row m some qs
 pub no_sets_emit : (qs : List Quantifier) (f : Frame) → sets (emit_quantifiers f qs) ≡ 0
 unfolding emit_quantifiers becomes sets
 no_sets_emit [] f = refl
-no_sets_emit (intQ some ∷ qs) f = no_sets_emit qs (with_number f)
-no_sets_emit (setQ some ∷ qs) f = sets_row (dbl f.regions) some (emit_quantifiers (with_set f) qs) ∙ no_sets_emit qs (with_set f)
-no_sets_emit (countQ some ∷ qs) f = no_sets_emit qs (with_number f)
+no_sets_emit (int_q some ∷ qs) f = no_sets_emit qs (with_number f)
+no_sets_emit (set_q some ∷ qs) f = sets_row (dbl f.regions) some (emit_quantifiers (with_set f) qs) ∙ no_sets_emit qs (with_set f)
+no_sets_emit (count_q some ∷ qs) f = no_sets_emit qs (with_number f)
 
 -- counts as values
 abbrev pub counts_of : List ℕ → List Value
@@ -72,10 +72,10 @@ bound_start w =
 
 -- a quantifier among one more
 binds_old : {t : Bool} (done : List Quantifier) (q : Quantifier) (i : ℕ) → i < length done → Binds t (done ++ q ∷ []) i → Binds t done i
-binds_old done q i l (h, e) = (l, ap is_set_q (sym (old_at done (q ∷ []) (intQ true) i l)) ∙ e)
+binds_old done q i l (h, e) = (l, ap is_set_q (sym (old_at done (q ∷ []) (int_q true) i l)) ∙ e)
 
 binds_new : {t : Bool} (done : List Quantifier) (q : Quantifier) (i : ℕ) → i ≡ length done → Binds t (done ++ q ∷ []) i → is_set_q q ≡ t
-binds_new done q i l (h, e) = ap is_set_q (sym (new_at done q (intQ true) i l)) ∙ e
+binds_new done q i l (h, e) = ap is_set_q (sym (new_at done q (int_q true) i l)) ∙ e
 
 module _ (w : World) (done : List Quantifier) (f : Frame) (us vs : List Value) (cs : List ℕ) (b : Bound w done f us vs cs) where
   -- as many numbers as quantifiers, also with one more

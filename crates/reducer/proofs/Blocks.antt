@@ -9,7 +9,7 @@ use Prim.Native.Nat.{ℕ, zero, suc}
 use native.Mathlib.Omega.{arith}
 use lib.IntN.{pos}
 use lib.ListN.{length, replicate}
-use Rattle.checker.specs.Claim.{Quantifier, Claim, intQ, setQ, countQ}
+use Rattle.checker.specs.Claim.{Quantifier, Claim, int_q, set_q, count_q}
 use Rattle.checker.specs.Sorts.{sets}
 use Rattle.checker.specs.Meaning.{Value, matrix, ports, Quantified, Holds, Subset, num}
 use Rattle.region.proofs.Quantified.{quantified, quantified_same, quantified_any, quantified_pair}
@@ -33,7 +33,7 @@ module _ (N : ℕ) (c : Claim) where
   moved qs e = (subst (Inner qs) e, subst (Inner qs) (sym e))
 
   block : (some : Bool) (m : ℕ) (qs : List Quantifier) (us : List Value)
-      → Inner (replicate m (countQ some) ++ qs) us ↔ Quantified some (Counts m) (λ x. Inner qs (us ++ counts_of x.0))
+      → Inner (replicate m (count_q some) ++ qs) us ↔ Quantified some (Counts m) (λ x. Inner qs (us ++ counts_of x.0))
   unfolding uncons
   block some zero qs us = Iff.symm (quantified_any some ([], refl) (λ x. none x.0 x.1))
     where
@@ -63,9 +63,9 @@ module _ (N : ℕ) (c : Claim) where
   constant : (t : Bool) (qs : List Quantifier) → sets qs ≡ 0 → (us : List Value) → Always t us → Inner qs us ↔ (t ≡ true)
   unfolding sets
   constant t [] n us h = let e : matrix (ports N) c us ≡ t = rw append-nil at (h []) in (λ p. sym e ∙ p, λ p. e ∙ p)
-  constant t (intQ some ∷ qs) n us h = quantified_any some (pos 0) (λ k. constant t qs n _ (one_more us (num k) h))
-  constant t (setQ some ∷ qs) n us h = absurd (omega arith)
-  constant t (countQ some ∷ qs) n us h = quantified_any some 0 (λ k. constant t qs n _ (one_more us (num (pos k)) h))
+  constant t (int_q some ∷ qs) n us h = quantified_any some (pos 0) (λ k. constant t qs n _ (one_more us (num k) h))
+  constant t (set_q some ∷ qs) n us h = absurd (omega arith)
+  constant t (count_q some ∷ qs) n us h = quantified_any some 0 (λ k. constant t qs n _ (one_more us (num (pos k)) h))
 
 -- ---- choices that meet a test
 
@@ -108,7 +108,7 @@ module _ (N : ℕ) (out : Claim) (m : ℕ) (rest : List Quantifier) (free : sets
   -- where the counts are good, the constraint can be left out
   pub one_set : (some : Bool) → ((ls : List ℕ) → Good ls → At (λ t b. b) ls → Inner N out rest (us ++ counts_of ls) ↔ X ls)
       → ((ls : List ℕ) → length ls ≡ m → At (guarded some) ls)
-      → Inner N out (replicate m (countQ some) ++ rest) us ↔ Quantified some ((ls : List ℕ) × Good ls) (λ x. X x.0)
+      → Inner N out (replicate m (count_q some) ++ rest) us ↔ Quantified some ((ls : List ℕ) × Good ls) (λ x. X x.0)
   one_set some next at =
       Iff.trans (block N out some m rest us)
       (met some m test long good (λ ls g. next ls g (left ls g)) (λ ls l e. constant N out (not some) rest free (us ++ counts_of ls) (idle ls l e)))

@@ -6,7 +6,7 @@ use mathlib.Core.List.{List, [], ◌∷◌, ◌++◌}
 use Prim.Native.Nat.{◌+◌, ◌<◌}
 use native.Mathlib.Omega.{arith}
 use lib.ListN.{length, length-append}
-use Rattle.checker.specs.Claim.{Node, Quantifier, conj, disj, neg, intQ, setQ, countQ}
+use Rattle.checker.specs.Claim.{Node, Quantifier, conj, disj, neg, int_q, set_q, count_q}
 use Rattle.checker.specs.Meaning.{Value, as_truth, truth_at, World, value_of, values, every, truth}
 use Rattle.emission.specs.Emission.{Frame, inside, last, Body, split_run, join_some, join_all, join, close, counts}
 use Rattle.reducer.proofs.Lists.{new_at}
@@ -80,7 +80,7 @@ guarded true t b = t && b
 guarded false t b = not t || b
 
 pub says-join : (w : World) (us : List Value) (f : Frame) → 0 < f.regions → (some : Bool) (b : Body) → Rooted b
-    → says w us (join f (setQ some) b) ≡ guarded some (held w us f) (says w us b)
+    → says w us (join f (set_q some) b) ≡ guarded some (held w us f) (says w us b)
 says-join w us f n true b h = says_some _ b h w us (held w us f) (split_ends w us f n b)
 says-join w us f n false b h = says_all _ b h w us (held w us f) (split_ends w us f n b)
 
@@ -95,10 +95,10 @@ close_keeps P step (q ∷ qs) f b h = step f q (close (inside f q) qs b) (close_
 
 join_rooted : (f : Frame) (q : Quantifier) (b : Body) → Rooted b → Rooted (join f q b)
 unfolding join_some join_all
-join_rooted f (intQ some) b h = h
-join_rooted f (setQ true) b h = simp length-append (omega arith)
-join_rooted f (setQ false) b h = simp length-append (omega arith)
-join_rooted f (countQ some) b h = h
+join_rooted f (int_q some) b h = h
+join_rooted f (set_q true) b h = simp length-append (omega arith)
+join_rooted f (set_q false) b h = simp length-append (omega arith)
+join_rooted f (count_q some) b h = h
 
 pub close_rooted : (qs : List Quantifier) (f : Frame) (b : Body) → Rooted b → Rooted (close f qs b)
 close_rooted qs f b h = close_keeps Rooted join_rooted qs f b h

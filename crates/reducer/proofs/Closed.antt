@@ -7,7 +7,7 @@ use Prim.Native.Nat.{ℕ, zero, suc, ◌+◌, ◌*◌, ◌-◌, ◌<◌, ◌≤�
 use native.Mathlib.Omega.{arith}
 use lib.ListN.{length, length-append}
 use Rattle.checker.specs.declared.Sort.TheVariants.{ATerm, AFormula}
-use Rattle.checker.specs.Claim.{Node, Quantifier, Claim, sum, equal, conj, disj, neg, intQ, setQ, countQ}
+use Rattle.checker.specs.Claim.{Node, Quantifier, Claim, sum, equal, conj, disj, neg, int_q, set_q, count_q}
 use Rattle.checker.specs.Sorts.{sort, Is, Fits, AllFit, WellSorted, sets}
 use Rattle.region.specs.Regions.{dbl}
 use Rattle.region.proofs.Regions.{dbl_is}
@@ -135,10 +135,10 @@ module _ (qs : List Quantifier) (free : sets qs ≡ 0) where
 
   join_sound : (done : List Quantifier) (f : Frame) → Framed done f → (q : Quantifier) → (inside f q).next ≤ length qs → (b : Body) → Sound b → Sound (join f q b)
   unfolding with_set
-  join_sound done f fr (intQ some) l b h = h
-  join_sound done f fr (setQ true) l b h = some_sound _ b h (split_fits done f fr l b.nodes) (split_tail done f fr l (length b.nodes))
-  join_sound done f fr (setQ false) l b h = all_sound _ b h (split_fits done f fr l b.nodes) (split_tail done f fr l (length b.nodes))
-  join_sound done f fr (countQ some) l b h = h
+  join_sound done f fr (int_q some) l b h = h
+  join_sound done f fr (set_q true) l b h = some_sound _ b h (split_fits done f fr l b.nodes) (split_tail done f fr l (length b.nodes))
+  join_sound done f fr (set_q false) l b h = all_sound _ b h (split_fits done f fr l b.nodes) (split_tail done f fr l (length b.nodes))
+  join_sound done f fr (count_q some) l b h = h
 
   close_sound : (inner done : List Quantifier) (f : Frame) → Framed done f → (inside_all f inner).next ≤ length qs → (b : Body) → Sound b → Sound (close f inner b)
   unfolding close inside_all

@@ -11,7 +11,7 @@ use lib.ListN.{length, get_or, take, length-append}
 use lib.Pow.{pow_pos}
 use lib.Seq.{take-length}
 use Rattle.checker.specs.declared.Shape.{Shape}
-use Rattle.checker.specs.Claim.{Quantifier, intQ, setQ, countQ, Claim}
+use Rattle.checker.specs.Claim.{Quantifier, int_q, set_q, count_q, Claim}
 use Rattle.checker.specs.Kinds.{number, quantifier_of}
 use Rattle.checker.specs.Words.{word_at, claim_of, nodes_words, quantifier_word, mark, trailer, words_of}
 use Rattle.checker.specs.Check.{max_sets}
@@ -40,18 +40,18 @@ use Rattle.reducer.proofs.Joining.{known, rooted}
 alls_append : (ps qs : List Quantifier) → all_sets (ps ++ qs) ≡ all_sets ps + all_sets qs
 unfolding all_sets
 alls_append [] qs = sym (zero-add (all_sets qs))
-alls_append (intQ some ∷ ps) qs = alls_append ps qs
-alls_append (setQ true ∷ ps) qs = alls_append ps qs
-alls_append (setQ false ∷ ps) qs = omega (arith, alls_append ps qs)
-alls_append (countQ some ∷ ps) qs = alls_append ps qs
+alls_append (int_q some ∷ ps) qs = alls_append ps qs
+alls_append (set_q true ∷ ps) qs = alls_append ps qs
+alls_append (set_q false ∷ ps) qs = omega (arith, alls_append ps qs)
+alls_append (count_q some ∷ ps) qs = alls_append ps qs
 
 pub alls_few : (qs : List Quantifier) → all_sets qs ≤ length qs
 unfolding all_sets
 alls_few [] = omega arith
-alls_few (intQ some ∷ qs) = omega (arith, alls_few qs)
-alls_few (setQ true ∷ qs) = omega (arith, alls_few qs)
-alls_few (setQ false ∷ qs) = omega (arith, alls_few qs)
-alls_few (countQ some ∷ qs) = omega (arith, alls_few qs)
+alls_few (int_q some ∷ qs) = omega (arith, alls_few qs)
+alls_few (set_q true ∷ qs) = omega (arith, alls_few qs)
+alls_few (set_q false ∷ qs) = omega (arith, alls_few qs)
+alls_few (count_q some ∷ qs) = omega (arith, alls_few qs)
 
 all_one : (k : ℕ) → k ≡ 4 → all_sets (quantifier_of (pos k) ∷ []) ≡ 1
 unfolding all_sets quantifier_of number
@@ -75,8 +75,8 @@ module _ {ws : List ℤ} {shape : Shape} (s : Sound ws shape) (j k : ℕ) (h : j
   alls_step : all_sets (take (j + 1) qs) ≡ all_sets (take j qs) + all_sets (quantifier_of (pos k) ∷ [])
   alls_step =
       let l : j < length qs = omega (arith, s.quantifiers) in
-      let q : get_or qs j (intQ true) ≡ quantifier_of (pos k) = quantifier_at_lem ws shape.nodes j s.nodes l ∙ ap (λ n. quantifier_of (pos n)) (sym e) in
-      ap all_sets (next_taken qs (intQ true) j l) ∙ alls_append (take j qs) (get_or qs j (intQ true) ∷ []) ∙ ap (λ x. all_sets (take j qs) + all_sets (x ∷ [])) q
+      let q : get_or qs j (int_q true) ≡ quantifier_of (pos k) = quantifier_at_lem ws shape.nodes j s.nodes l ∙ ap (λ n. quantifier_of (pos n)) (sym e) in
+      ap all_sets (next_taken qs (int_q true) j l) ∙ alls_append (take j qs) (get_or qs j (int_q true) ∷ []) ∙ ap (λ x. all_sets (take j qs) + all_sets (x ∷ [])) q
 
   pub one_more : k ≡ 4 → all_sets (take (j + 1) qs) ≡ all_sets (take j qs) + 1
   one_more is = alls_step ∙ ap (λ n. all_sets (take j qs) + n) (all_one k is)

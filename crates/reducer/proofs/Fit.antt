@@ -8,7 +8,7 @@ use native.Mathlib.Omega.{arith}
 use lib.IntN.{pos}
 use lib.ListN.{length, get_or, length-append}
 use Rattle.checker.specs.declared.Sort.TheVariants.{ATerm, AFormula}
-use Rattle.checker.specs.Claim.{Node, Quantifier, set_var, empty, whole, union, inter, compl, num_var, const, maxc, sum, diff, multiple, card, equal, less, divided, setEqual, subset, conj, disj, neg, unknown, intQ, setQ, countQ}
+use Rattle.checker.specs.Claim.{Node, Quantifier, set_var, empty, whole, union, inter, compl, num_var, const, maxc, sum, diff, multiple, card, equal, less, divided, set_equal, subset, conj, disj, neg, unknown, int_q, set_q, count_q}
 use Rattle.checker.specs.Sorts.{Is, is_set_q, Binds, Fits, AllFit, sets}
 use Rattle.region.specs.Regions.{minus}
 use Rattle.emission.specs.Emission.{Place, region_node, Frame, none, sum_run, card_run, last, empty_run, both_run, run_of, Emitted, emit_node, emit_nodes, size, counts}
@@ -20,14 +20,14 @@ pub fit_append : (qs : List Quantifier) (xs done ys : List Node) → AllFit qs d
 fit_append qs [] done ys h k = rw append-nil at k
 fit_append qs (x ∷ xs) done ys (h, hs) k = (h, fit_append qs xs (done ++ x ∷ []) ys hs (rw append_assoc k))
 
-numbers_only : (qs : List Quantifier) → sets qs ≡ 0 → (i : ℕ) → is_set_q (get_or qs i (intQ true)) ≡ false
+numbers_only : (qs : List Quantifier) → sets qs ≡ 0 → (i : ℕ) → is_set_q (get_or qs i (int_q true)) ≡ false
 unfolding sets
 numbers_only [] h i = refl
-numbers_only (setQ some ∷ qs) h i = absurd (omega arith)
-numbers_only (intQ some ∷ qs) h zero = refl
-numbers_only (intQ some ∷ qs) h (suc i) = numbers_only qs h i
-numbers_only (countQ some ∷ qs) h zero = refl
-numbers_only (countQ some ∷ qs) h (suc i) = numbers_only qs h i
+numbers_only (set_q some ∷ qs) h i = absurd (omega arith)
+numbers_only (int_q some ∷ qs) h zero = refl
+numbers_only (int_q some ∷ qs) h (suc i) = numbers_only qs h i
+numbers_only (count_q some ∷ qs) h zero = refl
+numbers_only (count_q some ∷ qs) h (suc i) = numbers_only qs h i
 
 module _ (qs : List Quantifier) (free : sets qs ≡ 0) where
   binds : (i : ℕ) → i < length qs → Binds false qs i
@@ -121,7 +121,7 @@ module _ (qs : List Quantifier) (free : sets qs ≡ 0) where
     run_fits done e (equal a b) sh (i, j) = ((sh.placed ATerm tt a i, sh.placed ATerm tt b j), tt)
     run_fits done e (less a b) sh (i, j) = ((sh.placed ATerm tt a i, sh.placed ATerm tt b j), tt)
     run_fits done e (divided c b) sh i = (sh.placed ATerm tt b i, tt)
-    run_fits done e (setEqual a b) sh i =
+    run_fits done e (set_equal a b) sh i =
         both_fits f.place f.regions regions_fit _ _ (covered_below f.regions (minus (get_or e.patterns a none) (get_or e.patterns b none)))
         (covered_below f.regions (minus (get_or e.patterns b none) (get_or e.patterns a none))) e.nodes (length e.nodes) refl
     run_fits done e (subset a b) sh i =

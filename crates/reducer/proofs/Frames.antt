@@ -5,7 +5,7 @@ use mathlib.Core.List.{List, [], ◌∷◌, ◌++◌, append_assoc, append-nil}
 use Prim.Native.Nat.{ℕ, ◌+◌, ◌<◌, ◌≤◌}
 use native.Mathlib.Omega.{arith}
 use lib.ListN.{length, get_or, length-append}
-use Rattle.checker.specs.Claim.{Quantifier, intQ, setQ, countQ}
+use Rattle.checker.specs.Claim.{Quantifier, int_q, set_q, count_q}
 use Rattle.region.specs.Regions.{dbl}
 use Rattle.emission.specs.Emission.{Place, Frame, start, with_number, with_set, inside, inside_all, size, counts}
 use Rattle.emission.proofs.Lengths.{dbl_some}
@@ -55,9 +55,9 @@ module _ (done : List Quantifier) (f : Frame) (h : Framed done f) (q : Quantifie
       }
 
 pub framed_inside : (done : List Quantifier) (f : Frame) → Framed done f → (q : Quantifier) → Framed (done ++ q ∷ []) (inside f q)
-framed_inside done f h (intQ some) = framed_number done f h (intQ some)
-framed_inside done f h (setQ some) = framed_set done f h (setQ some)
-framed_inside done f h (countQ some) = framed_number done f h (countQ some)
+framed_inside done f h (int_q some) = framed_number done f h (int_q some)
+framed_inside done f h (set_q some) = framed_set done f h (set_q some)
+framed_inside done f h (count_q some) = framed_number done f h (count_q some)
 
 pub framed_all : (qs done : List Quantifier) (f : Frame) → Framed done f → Framed (done ++ qs) (inside_all f qs)
 unfolding inside_all

@@ -10,7 +10,7 @@ use lib.IntN.{ℤ, pos}
 use lib.ListN.{length, get_or, take, drop, length-append, take-append-drop}
 use lib.Seq.{drop-append_seam, drop-length}
 use Rattle.checker.specs.declared.Shape.{Shape}
-use Rattle.checker.specs.Claim.{Node, conj, disj, neg, Quantifier, intQ, setQ, countQ, Claim}
+use Rattle.checker.specs.Claim.{Node, conj, disj, neg, Quantifier, int_q, set_q, count_q, Claim}
 use Rattle.checker.specs.Kinds.{number, quantifier_of}
 use Rattle.checker.specs.Words.{word_at, claim_of}
 use Rattle.checker.specs.Sorts.{is_set_q, sets}
@@ -74,15 +74,15 @@ added_all run b =
     ap (drop (length b.nodes)) (append_assoc b.nodes run _) ∙ drop-append_seam b.nodes _ ∙ rw (e, length-append)
 
 -- the last node is the body
-join_root : (f : Frame) (some : Bool) (b : Body) → (join f (setQ some) b).root ≡ length (join f (setQ some) b).nodes - 1
+join_root : (f : Frame) (some : Bool) (b : Body) → (join f (set_q some) b).root ≡ length (join f (set_q some) b).nodes - 1
 unfolding join_some join_all
 join_root f true b = simp length-append (omega arith)
 join_root f false b = simp length-append (omega arith)
 
 join_none : (f : Frame) (q : Quantifier) (b : Body) → is_set_q q ≡ false → join f q b ≡ b
-join_none f (intQ some) b e = refl
-join_none f (setQ some) b e = let z : ◌≡◌ {A = ℕ} 0 1 = cc in absurd (omega arith)
-join_none f (countQ some) b e = refl
+join_none f (int_q some) b e = refl
+join_none f (set_q some) b e = let z : ◌≡◌ {A = ℕ} 0 1 = cc in absurd (omega arith)
+join_none f (count_q some) b e = refl
 
 pub other_kind : (k : ℕ) → (k ≡ 3 → ⊥) → (k ≡ 4 → ⊥) → 3 ≤ k → k < 5 → ⊥
 other_kind k n m l h = omega arith
@@ -96,7 +96,7 @@ close-append (p ∷ ps) qs f b = ap (join f p) (close-append ps qs (inside f p) 
 
 module _ (c : Claim) where
   abbrev quantifier : ℕ → Quantifier
-  quantifier j = get_or c.quantifiers j (intQ true)
+  quantifier j = get_or c.quantifiers j (int_q true)
 
   abbrev frame : ℕ → Frame
   frame j = inside_all start (take j c.quantifiers)
@@ -104,8 +104,8 @@ module _ (c : Claim) where
   closed_step : (j : ℕ) → j < length c.quantifiers → closed_from c j ≡ join (frame j) (quantifier j) (closed_from c (j + 1))
   unfolding closed_from close
   closed_step j h =
-      ap (λ l. close (frame j) l (body c)) (next_dropped c.quantifiers (intQ true) j h)
-      ∙ ap (λ g. join (frame j) (quantifier j) (close g (drop (j + 1) c.quantifiers) (body c))) (sym (inside_step start c.quantifiers (intQ true) j h))
+      ap (λ l. close (frame j) l (body c)) (next_dropped c.quantifiers (int_q true) j h)
+      ∙ ap (λ g. join (frame j) (quantifier j) (close g (drop (j + 1) c.quantifiers) (body c))) (sym (inside_step start c.quantifiers (int_q true) j h))
 
   -- all nodes of the body after quantifier j + 1 come first
   closed_longer : (j : ℕ) → j < length c.quantifiers → (closed_from c j).nodes ≡ (closed_from c (j + 1)).nodes ++ added (closed_from c (j + 1)) (closed_from c j)
@@ -228,7 +228,7 @@ module _ {ws : List ℤ} {shape : Shape} {plan : List ℕ} (p : Prepared ws shap
       root_small room = omega (arith, rooted (j + 1), t.nodes, t.root, room.numbers)
 
       -- and what is known after it, the last node being the body
-      done : {l l' : List ℤ} {r : kept.Body} (some : Bool) → quantifier claim j ≡ setQ some → WroteNodes l k.nodes (added before after) l' r.nodes
+      done : {l l' : List ℤ} {r : kept.Body} (some : Bool) → quantifier claim j ≡ set_q some → WroteNodes l k.nodes (added before after) l' r.nodes
           → r.root ≡ r.nodes - 1 → Tells after r
       done {r = r} some q w root =
           let long : r.nodes ≡ length after.nodes =

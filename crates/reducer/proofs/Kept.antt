@@ -11,7 +11,7 @@ use lib.ListN.{length, get_or, length-append}
 use lib.Signed.{lt_z}
 use Rattle.checker.specs.declared.Sort.{Sort}
 use Rattle.checker.specs.declared.Sort.TheVariants.{ASet, ATerm, AFormula}
-use Rattle.checker.specs.Claim.{Node, Quantifier, set_var, empty, whole, union, inter, compl, num_var, const, maxc, sum, diff, multiple, card, equal, less, divided, setEqual, subset, conj, disj, neg, unknown}
+use Rattle.checker.specs.Claim.{Node, Quantifier, set_var, empty, whole, union, inter, compl, num_var, const, maxc, sum, diff, multiple, card, equal, less, divided, set_equal, subset, conj, disj, neg, unknown}
 use Rattle.checker.specs.Kinds.{is_set}
 use Rattle.checker.specs.Sorts.{sort, Is, Binds, Fits, AllFit}
 use Rattle.checker.specs.Meaning.{Set, Value, as_set, as_num, as_truth, set_at, num_at, truth_at, divides, eq_z, World, value_of, values, num, truth}
@@ -96,7 +96,7 @@ module _ (w : World) (qs : List Quantifier) (f : Frame) (us vs : List Value) (cs
     run_ends (equal a b) s (i, j) k l = ends_one w us (ap₂ (λ x y. truth (eq_z x y)) (nums a i) (nums b j))
     run_ends (less a b) s (i, j) k l = ends_one w us (ap₂ (λ x y. truth (lt_z x y)) (nums a i) (nums b j))
     run_ends (divided c b) s i k l = ends_one w us (ap (λ x. truth (divides c x)) (nums b i))
-    run_ends (setEqual a b) s (i, j) k l =
+    run_ends (set_equal a b) s (i, j) k l =
         ends_is (ap₂ (λ x y. truth (eqb x 0 && eqb y 0)) (minuses a b i j) (minuses b a j i))
         (both_ends w us f.place f.regions (λ r. get_or cs r 0) m.amounts _ _ (covered_below f.regions (minus (pat a) (pat b))) (covered_below f.regions (minus (pat b) (pat a))) (outs e) k l)
     run_ends (subset a b) s (i, j) k l =
@@ -125,7 +125,7 @@ module _ (w : World) (qs : List Quantifier) (f : Frame) (us vs : List Value) (cs
     pattern_is (equal a b) s i = absurd (false≢true s)
     pattern_is (less a b) s i = absurd (false≢true s)
     pattern_is (divided c b) s i = absurd (false≢true s)
-    pattern_is (setEqual a b) s i = absurd (false≢true s)
+    pattern_is (set_equal a b) s i = absurd (false≢true s)
     pattern_is (subset a b) s i = absurd (false≢true s)
     pattern_is (conj a b) s i = absurd (false≢true s)
     pattern_is (disj a b) s i = absurd (false≢true s)

@@ -5,7 +5,7 @@ use mathlib.Core.Bool.{true, false}
 use mathlib.Core.List.{List, [], ◌∷◌, ◌++◌}
 use Prim.Native.Nat.{ℕ, zero, suc, ◌+◌, ◌*◌, ◌-◌}
 use lib.ListN.{length}
-use Rattle.checker.specs.Claim.{Node, Quantifier, Claim, set_var, empty, whole, union, inter, compl, num_var, const, maxc, sum, diff, multiple, card, equal, less, divided, setEqual, subset, conj, disj, neg, unknown, intQ, setQ, countQ}
+use Rattle.checker.specs.Claim.{Node, Quantifier, Claim, set_var, empty, whole, union, inter, compl, num_var, const, maxc, sum, diff, multiple, card, equal, less, divided, set_equal, subset, conj, disj, neg, unknown, int_q, set_q, count_q}
 use Rattle.checker.specs.Kinds.{is_set}
 use Rattle.checker.specs.Sorts.{sort, sets}
 use Rattle.checker.specs.Meaning.{Set}
@@ -62,7 +62,7 @@ run_no_set f k st pat (card a) = card_no_set f.place _ k
 run_no_set f k st pat (equal a b) = (refl, tt)
 run_no_set f k st pat (less a b) = (refl, tt)
 run_no_set f k st pat (divided c b) = (refl, tt)
-run_no_set f k st pat (setEqual a b) = both_no_set f.place _ _ k
+run_no_set f k st pat (set_equal a b) = both_no_set f.place _ _ k
 run_no_set f k st pat (subset a b) = empty_no_set f.place _ k
 run_no_set f k st pat (conj a b) = (refl, tt)
 run_no_set f k st pat (disj a b) = (refl, tt)
@@ -94,14 +94,14 @@ split_no_set f k = constraint_no_set f.place (counts f.next) k f.regions
 
 join_no_set : (f : Frame) (q : Quantifier) (b : Body) → NoSetNodes b.nodes → NoSetNodes (join f q b).nodes
 unfolding join_some join_all
-join_no_set f (intQ some) b h = h
-join_no_set f (setQ true) b h =
+join_no_set f (int_q some) b h = h
+join_no_set f (set_q true) b h =
     let nodes = b.nodes ++ split_run f (length b.nodes) in
     no_set_append nodes (conj (last 0 nodes) b.root ∷ []) (no_set_append b.nodes _ h (split_no_set f _)) (refl, tt)
-join_no_set f (setQ false) b h =
+join_no_set f (set_q false) b h =
     let nodes = b.nodes ++ split_run f (length b.nodes) in
     no_set_append nodes (neg (last 0 nodes) ∷ disj (length nodes) b.root ∷ []) (no_set_append b.nodes _ h (split_no_set f _)) (refl, (refl, tt))
-join_no_set f (countQ some) b h = h
+join_no_set f (count_q some) b h = h
 
 pub emission_no_set_nodes : (c : Claim) → NoSetNodes (emission c).nodes
 unfolding emission body nothing

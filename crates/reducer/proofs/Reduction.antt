@@ -9,7 +9,7 @@ use Prim.Native.Nat.{ℕ}
 use lib.IntN.{ℤ, pos}
 use lib.ListN.{length}
 use Rattle.checker.specs.declared.Sort.TheVariants.{AFormula}
-use Rattle.checker.specs.Claim.{Quantifier, Claim, intQ, setQ, countQ}
+use Rattle.checker.specs.Claim.{Quantifier, Claim, int_q, set_q, count_q}
 use Rattle.checker.specs.Words.{claim_of, words_of}
 use Rattle.checker.specs.Sorts.{WellSorted}
 use Rattle.checker.specs.Meaning.{Value, as_truth, truth_at, World, matrix, ports, TrueAt, num}
@@ -62,19 +62,19 @@ module _ (N : ℕ) (c : Claim) (sorted : WellSorted c) where
 
   -- one more set
   module _ (done : List Quantifier) (f : Frame) (us vs : List Value) (cs : List ℕ) (b : Bound (ports N) done f us vs cs) (qs : List Quantifier) where
-    abbrev next-body : Body
-    next-body = close (with_set f) qs (body c)
+    abbrev next_body : Body
+    next_body = close (with_set f) qs (body c)
 
-    next_rooted : Rooted next-body
+    next_rooted : Rooted next_body
     next_rooted = close_rooted qs (with_set f) (body c) (body_rooted c sorted)
 
-    set_says : (some : Bool) → Says f (setQ some ∷ qs) us → (ls : List ℕ) → length ls ≡ dbl f.regions → (more : List Value)
-        → matrix (ports N) (emission c) ((us ++ counts_of ls) ++ more) ≡ guarded some (splits f.regions cs ls) (says (ports N) ((us ++ counts_of ls) ++ more) next-body)
+    set_says : (some : Bool) → Says f (set_q some ∷ qs) us → (ls : List ℕ) → length ls ≡ dbl f.regions → (more : List Value)
+        → matrix (ports N) (emission c) ((us ++ counts_of ls) ++ more) ≡ guarded some (splits f.regions cs ls) (says (ports N) ((us ++ counts_of ls) ++ more) next_body)
     unfolding close
     set_says some h ls l more =
-        more_says f (setQ some ∷ qs) us (counts_of ls) h more
-        ∙ says-join (ports N) ((us ++ counts_of ls) ++ more) f b.some some next-body next_rooted
-        ∙ ap (λ t. guarded some t (says (ports N) ((us ++ counts_of ls) ++ more) next-body)) (held_is (ports N) done f us vs cs b ls l more)
+        more_says f (set_q some ∷ qs) us (counts_of ls) h more
+        ∙ says-join (ports N) ((us ++ counts_of ls) ++ more) f b.some some next_body next_rooted
+        ∙ ap (λ t. guarded some t (says (ports N) ((us ++ counts_of ls) ++ more) next_body)) (held_is (ports N) done f us vs cs b ls l more)
 
     split_long : (ls : List ℕ) → Split cs ls → length ls ≡ dbl f.regions
     split_long ls s = split_doubles cs ls s ∙ ap dbl b.long
@@ -90,19 +90,19 @@ module _ (N : ℕ) (c : Claim) (sorted : WellSorted c) where
       → Inner N (emission c) (emit_quantifiers f qs) us ↔ HoldsR c qs vs cs
   unfolding emit_quantifiers becomes close inside_all
   reduction [] done f us vs cs b d i h = let e = innermost done f us vs cs b d i h in (λ t. sym e ∙ t, λ t. e ∙ t)
-  reduction (intQ some ∷ qs) done f us vs cs b d i h =
-      quantified_same some (λ k. reduction qs (done ++ intQ some ∷ []) (with_number f) (us ++ num k ∷ []) (vs ++ num k ∷ []) cs
-      (bound_number (ports N) done f us vs cs b (intQ some) k) (append_assoc done (intQ some ∷ []) qs ∙ d) i (more_says (with_number f) qs us (num k ∷ []) h))
-  reduction (setQ some ∷ qs) done f us vs cs b d i h =
+  reduction (int_q some ∷ qs) done f us vs cs b d i h =
+      quantified_same some (λ k. reduction qs (done ++ int_q some ∷ []) (with_number f) (us ++ num k ∷ []) (vs ++ num k ∷ []) cs
+      (bound_number (ports N) done f us vs cs b (int_q some) k) (append_assoc done (int_q some ∷ []) qs ∙ d) i (more_says (with_number f) qs us (num k ∷ []) h))
+  reduction (set_q some ∷ qs) done f us vs cs b d i h =
       one_set N (emission c) (dbl f.regions) (emit_quantifiers (with_set f) qs) (no_sets_emit qs (with_set f)) us (λ ws. says (ports N) ws (close (with_set f) qs (body c)))
       (splits f.regions cs) (Split cs) (HoldsR c qs (grow vs))
       (split_long done f us vs cs b qs) (split_passes done f us vs cs b qs) (split_good done f us vs cs b qs) some
-      (λ ls s t. reduction qs (done ++ setQ some ∷ []) (with_set f) (us ++ counts_of ls) (grow vs) ls
-      (bound_set (ports N) done f us vs cs b (setQ some) refl ls s) (append_assoc done (setQ some ∷ []) qs ∙ d) i t)
+      (λ ls s t. reduction qs (done ++ set_q some ∷ []) (with_set f) (us ++ counts_of ls) (grow vs) ls
+      (bound_set (ports N) done f us vs cs b (set_q some) refl ls s) (append_assoc done (set_q some ∷ []) qs ∙ d) i t)
       (set_says done f us vs cs b qs some h)
-  reduction (countQ some ∷ qs) done f us vs cs b d i h =
-      quantified_same some (λ k. reduction qs (done ++ countQ some ∷ []) (with_number f) (us ++ num (pos k) ∷ []) (vs ++ num (pos k) ∷ []) cs
-      (bound_number (ports N) done f us vs cs b (countQ some) (pos k)) (append_assoc done (countQ some ∷ []) qs ∙ d) i (more_says (with_number f) qs us (num (pos k) ∷ []) h))
+  reduction (count_q some ∷ qs) done f us vs cs b d i h =
+      quantified_same some (λ k. reduction qs (done ++ count_q some ∷ []) (with_number f) (us ++ num (pos k) ∷ []) (vs ++ num (pos k) ∷ []) cs
+      (bound_number (ports N) done f us vs cs b (count_q some) (pos k)) (append_assoc done (count_q some ∷ []) qs ∙ d) i (more_says (with_number f) qs us (num (pos k) ∷ []) h))
 
   -- over region counts
   pub emission_counts : TrueAt N (emission c) ↔ TrueAtR N c

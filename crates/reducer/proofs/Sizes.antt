@@ -10,7 +10,7 @@ use native.Mathlib.Omega.{arith}
 use lib.ListN.{length, get_or, length-append, drop}
 use lib.Pow.{pow_mono}
 use lib.Seq.{drop-append_seam}
-use Rattle.checker.specs.Claim.{Node, Quantifier, Claim, intQ, setQ, countQ}
+use Rattle.checker.specs.Claim.{Node, Quantifier, Claim, int_q, set_q, count_q}
 use Rattle.checker.specs.Words.{words_of}
 use Rattle.checker.specs.Sorts.{sets}
 use Rattle.checker.specs.declared.Dialect.TheVariants as dialect
@@ -45,10 +45,10 @@ starts_more {xs} s zs = record { rest = s.rest ++ zs; is = ap (λ l. l ++ zs) s.
 
 join_starts : (xs : List Node) (f : Frame) (q : Quantifier) (b : Body) → Starts xs b.nodes → Starts xs (join f q b).nodes
 unfolding join_some join_all
-join_starts xs f (intQ some) b s = s
-join_starts xs f (setQ true) b s = starts_more (starts_more s _) _
-join_starts xs f (setQ false) b s = starts_more (starts_more s _) _
-join_starts xs f (countQ some) b s = s
+join_starts xs f (int_q some) b s = s
+join_starts xs f (set_q true) b s = starts_more (starts_more s _) _
+join_starts xs f (set_q false) b s = starts_more (starts_more s _) _
+join_starts xs f (count_q some) b s = s
 
 -- constraints are added to what is there
 pub close_starts : (qs : List Quantifier) (f : Frame) (b : Body) → Starts b.nodes (close f qs b).nodes
@@ -81,10 +81,10 @@ constraints_length c =
 all_sets_few : (qs : List Quantifier) → all_sets qs ≤ sets qs
 unfolding sets all_sets
 all_sets_few [] = omega arith
-all_sets_few (intQ some ∷ qs) = all_sets_few qs
-all_sets_few (setQ true ∷ qs) = omega (arith, all_sets_few qs)
-all_sets_few (setQ false ∷ qs) = omega (arith, all_sets_few qs)
-all_sets_few (countQ some ∷ qs) = all_sets_few qs
+all_sets_few (int_q some ∷ qs) = all_sets_few qs
+all_sets_few (set_q true ∷ qs) = omega (arith, all_sets_few qs)
+all_sets_few (set_q false ∷ qs) = omega (arith, all_sets_few qs)
+all_sets_few (count_q some ∷ qs) = all_sets_few qs
 
 nodes_short : (f : Frame) (ns : List Node) (e : Emitted) → 0 < f.regions
     → length (emit_nodes f e ns).nodes ≤ length e.nodes + length ns * (2 * f.regions + 5)

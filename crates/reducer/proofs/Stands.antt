@@ -8,7 +8,7 @@ use lib.IntN.{pos}
 use lib.ListN.{length, get_or, length-append}
 use Rattle.checker.specs.declared.Sort.{Sort}
 use Rattle.checker.specs.declared.Sort.TheVariants.{ASet, ATerm, AFormula, NoSort}
-use Rattle.checker.specs.Claim.{Node, set_var, empty, whole, union, inter, compl, num_var, const, maxc, sum, diff, multiple, card, equal, less, divided, setEqual, subset, conj, disj, neg, unknown}
+use Rattle.checker.specs.Claim.{Node, set_var, empty, whole, union, inter, compl, num_var, const, maxc, sum, diff, multiple, card, equal, less, divided, set_equal, subset, conj, disj, neg, unknown}
 use Rattle.checker.specs.Sorts.{sort, Is}
 use Rattle.checker.specs.Meaning.{Set}
 use Rattle.emission.specs.Emission.{Place, region_node, Frame, none, sum_run, card_run, last, empty_run, both_run, run_of, Emitted, emit_node, emit_nodes, size, counts}
@@ -95,7 +95,7 @@ run_tail f k st pat (card a) s = card_tail f.place k _
 run_tail f k st pat (equal a b) s = tail_one _
 run_tail f k st pat (less a b) s = tail_one _
 run_tail f k st pat (divided c b) s = tail_one _
-run_tail f k st pat (setEqual a b) s = both_tail f.place k _ _
+run_tail f k st pat (set_equal a b) s = both_tail f.place k _ _
 run_tail f k st pat (subset a b) s = empty_tail f.place k _
 run_tail f k st pat (conj a b) s = tail_one _
 run_tail f k st pat (disj a b) s = tail_one _

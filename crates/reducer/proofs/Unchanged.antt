@@ -9,7 +9,7 @@ use lib.IntN.{ℤ}
 use lib.ListN.{length, get_or, length-append}
 use Rattle.checker.specs.declared.Sort.{Sort}
 use Rattle.checker.specs.declared.Sort.TheVariants.{ASet}
-use Rattle.checker.specs.Claim.{Node, Quantifier, Claim, set_var, empty, whole, union, inter, compl, num_var, const, maxc, sum, diff, multiple, card, equal, less, divided, setEqual, subset, conj, disj, neg, unknown, intQ, setQ, countQ}
+use Rattle.checker.specs.Claim.{Node, Quantifier, Claim, set_var, empty, whole, union, inter, compl, num_var, const, maxc, sum, diff, multiple, card, equal, less, divided, set_equal, subset, conj, disj, neg, unknown, int_q, set_q, count_q}
 use Rattle.checker.specs.Kinds.{is_set}
 use Rattle.checker.specs.Words.{claim_of, words_of}
 use Rattle.checker.specs.Sorts.{sort, Is, Fits, AllFit, WellSorted, sets}
@@ -52,23 +52,23 @@ numbered_more done f q h =
 numbered_all : (qs done : List Quantifier) (f : Frame) → sets qs ≡ 0 → Numbered done f → Numbered (done ++ qs) (inside_all f qs)
 unfolding inside_all sets
 numbered_all [] done f n h = rw append-nil h
-numbered_all (intQ some ∷ qs) done f n h = rw append_assoc at (numbered_all qs (done ++ intQ some ∷ []) (with_number f) n (numbered_more done f (intQ some) h))
-numbered_all (setQ some ∷ qs) done f n h = absurd (omega arith)
-numbered_all (countQ some ∷ qs) done f n h = rw append_assoc at (numbered_all qs (done ++ countQ some ∷ []) (with_number f) n (numbered_more done f (countQ some) h))
+numbered_all (int_q some ∷ qs) done f n h = rw append_assoc at (numbered_all qs (done ++ int_q some ∷ []) (with_number f) n (numbered_more done f (int_q some) h))
+numbered_all (set_q some ∷ qs) done f n h = absurd (omega arith)
+numbered_all (count_q some ∷ qs) done f n h = rw append_assoc at (numbered_all qs (done ++ count_q some ∷ []) (with_number f) n (numbered_more done f (count_q some) h))
 
 same_quantifiers : (qs : List Quantifier) (f : Frame) → sets qs ≡ 0 → emit_quantifiers f qs ≡ qs
 unfolding emit_quantifiers becomes sets
 same_quantifiers [] f n = refl
-same_quantifiers (intQ some ∷ qs) f n = ap (λ l. (intQ some) ∷ l) (same_quantifiers qs (with_number f) n)
-same_quantifiers (setQ some ∷ qs) f n = absurd (omega arith)
-same_quantifiers (countQ some ∷ qs) f n = ap (λ l. (countQ some) ∷ l) (same_quantifiers qs (with_number f) n)
+same_quantifiers (int_q some ∷ qs) f n = ap (λ l. (int_q some) ∷ l) (same_quantifiers qs (with_number f) n)
+same_quantifiers (set_q some ∷ qs) f n = absurd (omega arith)
+same_quantifiers (count_q some ∷ qs) f n = ap (λ l. (count_q some) ∷ l) (same_quantifiers qs (with_number f) n)
 
 no_constraints : (qs : List Quantifier) (f : Frame) (b : Body) → sets qs ≡ 0 → close f qs b ≡ b
 unfolding close sets
 no_constraints [] f b n = refl
-no_constraints (intQ some ∷ qs) f b n = no_constraints qs (with_number f) b n
-no_constraints (setQ some ∷ qs) f b n = absurd (omega arith)
-no_constraints (countQ some ∷ qs) f b n = no_constraints qs (with_number f) b n
+no_constraints (int_q some ∷ qs) f b n = no_constraints qs (with_number f) b n
+no_constraints (set_q some ∷ qs) f b n = absurd (omega arith)
+no_constraints (count_q some ∷ qs) f b n = no_constraints qs (with_number f) b n
 
 -- ---- nodes keep their numbers
 
@@ -100,7 +100,7 @@ module _ (qs : List Quantifier) (f : Frame) (num : Numbered qs f) where
     same_run (equal a b) s (i, j) = ap₂ (λ x y. equal x y ∷ []) (child a i) (child b j)
     same_run (less a b) s (i, j) = ap₂ (λ x y. less x y ∷ []) (child a i) (child b j)
     same_run (divided c b) s i = ap (λ x. divided c x ∷ []) (child b i)
-    same_run (setEqual a b) s (i, j) = absurd (no_child done free a i)
+    same_run (set_equal a b) s (i, j) = absurd (no_child done free a i)
     same_run (subset a b) s (i, j) = absurd (no_child done free a i)
     same_run (conj a b) s (i, j) = ap₂ (λ x y. conj x y ∷ []) (child a i) (child b j)
     same_run (disj a b) s (i, j) = ap₂ (λ x y. disj x y ∷ []) (child a i) (child b j)

@@ -3,7 +3,7 @@
 use Rattle.std.specs.Prelude.{◌≡◌, true, List, ◌++◌, map, ℕ, ◌+◌, ◌*◌, ◌^◌, ◌≤◌, ℤ, length, get_or, take, drop}
 use Rattle.checker.specs.declared.Shape.{Shape}
 use Rattle.checker.specs.declared.Checked.TheVariants.{Accepted}
-use Rattle.checker.specs.Claim.{Node, intQ, Claim}
+use Rattle.checker.specs.Claim.{Node, int_q, Claim}
 use Rattle.checker.specs.Words.{claim_of, nodes_words, quantifier_word, trailer}
 use Rattle.checker.specs.Check.{max_sets, check_of}
 use Rattle.emission.specs.declared.Frame as code
@@ -49,7 +49,7 @@ pub record Tells (b : Body) (k : kept.Body) : Type 0 where
 
 -- the words of what quantifier j becomes
 unfoldable pub becomes_at : Claim → ℕ → List ℤ
-becomes_at c j = map quantifier_word (becomes (inside_all start (take j c.quantifiers)) (get_or c.quantifiers j (intQ true)))
+becomes_at c j = map quantifier_word (becomes (inside_all start (take j c.quantifiers)) (get_or c.quantifiers j (int_q true)))
 
 -- ---- the words after those of the nodes' runs
 

@@ -2,7 +2,7 @@
 -- Assumes nothing.
 use Rattle.std.specs.Prelude.{◌≡◌, Bool, false, not, List, [], ◌∷◌, ℕ, ◌+◌, ◌^◌, length, drop}
 use Rattle.std.specs.Bool.{beq}
-use Rattle.checker.specs.Claim.{Node, Quantifier, intQ, setQ, countQ, Claim}
+use Rattle.checker.specs.Claim.{Node, Quantifier, int_q, set_q, count_q, Claim}
 use Rattle.checker.specs.Kinds.{is_set}
 use Rattle.checker.specs.Sorts.{sort, sets}
 use Rattle.checker.specs.Meaning.{bit}
@@ -19,9 +19,9 @@ constraint_part c = drop (length (body c).nodes) (emission c).nodes
 -- ---- alternations
 
 abbrev pub is_exists : Quantifier → Bool
-is_exists (intQ some) = some
-is_exists (setQ some) = some
-is_exists (countQ some) = some
+is_exists (int_q some) = some
+is_exists (set_q some) = some
+is_exists (count_q some) = some
 
 -- adjacent quantifiers of which one is an exists and the other a for-all
 unfoldable pub alternations : List Quantifier → ℕ

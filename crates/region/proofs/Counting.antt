@@ -9,7 +9,7 @@ use borrow.Author.Tests.{lt-ltb, le-ltb}
 use lib.Dec.{eqb, ltb}
 use lib.IntN.{pos}
 use lib.ListN.{get_or, get_or-map}
-use Rattle.checker.specs.Claim.{Node, set_var, empty, whole, union, inter, compl, num_var, const, maxc, sum, diff, multiple, card, equal, less, divided, setEqual, subset, conj, disj, neg, unknown, Quantifier, intQ, setQ, countQ, Claim}
+use Rattle.checker.specs.Claim.{Node, set_var, empty, whole, union, inter, compl, num_var, const, maxc, sum, diff, multiple, card, equal, less, divided, set_equal, subset, conj, disj, neg, unknown, Quantifier, int_q, set_q, count_q, Claim}
 use Rattle.checker.specs.Meaning.{Set, Value, set, num, truth, as_set, as_num, as_truth, set_at, num_at, truth_at, World, value_of, values, matrix, bit, ports, Holds, Subset, TrueAt}
 use Rattle.region.specs.Regions.{deeper, half, odd, dbl, tally, tallies, Split, minus, regions}
 use Rattle.region.specs.Counting.{pull, grow, HoldsR, TrueAtR}
@@ -75,7 +75,7 @@ module _ (r : ℕ → ℕ) where
     value_of_lem vs (equal a b) = rw (num_at_lem vs a, num_at_lem vs b)
     value_of_lem vs (less a b) = rw (num_at_lem vs a, num_at_lem vs b)
     value_of_lem vs (divided c b) = rw (num_at_lem vs b)
-    value_of_lem vs (setEqual a b) = rw (set_at_lem vs a, set_at_lem vs b, o.same (set_at vs a) (set_at vs b))
+    value_of_lem vs (set_equal a b) = rw (set_at_lem vs a, set_at_lem vs b, o.same (set_at vs a) (set_at vs b))
     value_of_lem vs (subset a b) = rw (set_at_lem vs a, set_at_lem vs b, o.within (set_at vs a) (set_at vs b))
     value_of_lem vs (conj a b) = rw (truth_at_lem vs a, truth_at_lem vs b)
     value_of_lem vs (disj a b) = rw (truth_at_lem vs a, truth_at_lem vs b)
@@ -157,14 +157,14 @@ module _ (F : Type 0) (members : F → Set) (N : ℕ) (full : Full F members N) 
   counting [] n r h vs =
       let e : matrix (ports N) c (map (pull r) vs) ≡ matrix (regions (tallies n N r)) c vs = matrix_of r (over_ports n N r h) vs c in
       (λ t. sym e ∙ t, λ t. e ∙ t)
-  counting (intQ some ∷ qs) n r h vs =
+  counting (int_q some ∷ qs) n r h vs =
       quantified_same some (λ k. carry qs (sym (map-append (pull r) vs (num k ∷ []))) (counting qs n r h (vs ++ num k ∷ [])))
-  counting (setQ some ∷ qs) n r h vs =
+  counting (set_q some ∷ qs) n r h vs =
       let step : (f : F) → Holds F members N c qs (map (pull r) vs ++ set (members f) ∷ []) ↔ HoldsR c qs (grow vs) (tallies (dbl n) N (deeper r (members f))) =
       λ f. carry qs (pull_grow r (members f) vs) (counting qs (dbl n) (deeper r (members f)) (deeper_lt n r (members f) h) (grow vs)) in
       quantified some (λ f. (tallies (dbl n) N (deeper r (members f)), tallies-split n N r (members f))) (λ x. (split_by n r x.0 x.1).0) step
       (λ x. let w = split_by n r x.0 x.1 in rw w.1 at (step w.0))
-  counting (countQ some ∷ qs) n r h vs =
+  counting (count_q some ∷ qs) n r h vs =
       quantified_same some (λ k. carry qs (sym (map-append (pull r) vs (num (pos k) ∷ []))) (counting qs n r h (vs ++ num (pos k) ∷ [])))
 
 one_region : (N : ℕ) → tallies 1 N (λ p. 0) ≡ N ∷ []

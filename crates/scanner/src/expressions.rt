@@ -1,7 +1,7 @@
 // What a let binds: the expression of a node. `opens` is the number of bytes before its first number.
 ghost use Rattle.std.specs.Prelude.{ℕ, ◌≤◌, pos, length, drop};
 ghost use Rattle.checker.specs.Claim.{Node, divided};
-ghost use Rattle.sentence.specs.Scan.{minusFrom, timesFrom, equalFrom, andFrom, bracketFrom, exprFrom};
+ghost use Rattle.sentence.specs.Scan.{minus_from, times_from, equal_from, and_from, bracket_from, expr_from};
 ghost use Rattle.scanner.specs.Places.{most, signed, LineAt, TwoFields, OneField, two_at, one_at};
 
 use crate::Line;
@@ -102,7 +102,7 @@ fn one_field(text: &[u8], at: usize, opens: usize, after: usize, kind: usize, mi
 // (- n3 n4) or (- 5)
 fn minus(text: &[u8], at: usize) -> Line
     requires { at ≤ length text.now }
-    ensures { LineAt text.now (minusFrom most (drop at text.now)) result }
+    ensures { LineAt text.now (minus_from most (drop at text.now)) result }
 {
     if byte_is(text, at, 3, b'n') {
         return two_fields(text, at, 4, 2, DIFFERENCE, false);
@@ -113,7 +113,7 @@ fn minus(text: &[u8], at: usize) -> Line
 // (* (- 5) n3) or (* 5 n3)
 fn times(text: &[u8], at: usize) -> Line
     requires { at ≤ length text.now }
-    ensures { LineAt text.now (timesFrom most (drop at text.now)) result }
+    ensures { LineAt text.now (times_from most (drop at text.now)) result }
 {
     if byte_is(text, at, 3, b'(') {
         return two_fields(text, at, 6, 3, MULTIPLE, true);
@@ -124,7 +124,7 @@ fn times(text: &[u8], at: usize) -> Line
 // (= n3 n4), (= 0 (mod n3 5)) or (= (mod n3 5) 0)
 fn equal(text: &[u8], at: usize) -> Line
     requires { at ≤ length text.now }
-    ensures { LineAt text.now (equalFrom most (drop at text.now)) result }
+    ensures { LineAt text.now (equal_from most (drop at text.now)) result }
 {
     if byte_is(text, at, 3, b'n') {
         return two_fields(text, at, 4, 2, EQUAL, false);
@@ -138,7 +138,7 @@ fn equal(text: &[u8], at: usize) -> Line
 // (and n3 n4) or (and false (= n3 0))
 fn and(text: &[u8], at: usize) -> Line
     requires { at ≤ length text.now }
-    ensures { LineAt text.now (andFrom most (drop at text.now)) result }
+    ensures { LineAt text.now (and_from most (drop at text.now)) result }
 {
     if byte_is(text, at, 5, b'n') {
         return two_fields(text, at, 6, 2, AND, false);
@@ -149,7 +149,7 @@ fn and(text: &[u8], at: usize) -> Line
 // What opens by a bracket: the operator tells which.
 fn bracket(text: &[u8], at: usize) -> Line
     requires { at ≤ length text.now }
-    ensures { LineAt text.now (bracketFrom most (drop at text.now)) result }
+    ensures { LineAt text.now (bracket_from most (drop at text.now)) result }
 {
     let operator = byte_at(text, at, 1);
     match operator {
@@ -166,7 +166,7 @@ fn bracket(text: &[u8], at: usize) -> Line
 
 pub fn expression(text: &[u8], at: usize) -> Line
     requires { at ≤ length text.now }
-    ensures { LineAt text.now (exprFrom most (drop at text.now)) result }
+    ensures { LineAt text.now (expr_from most (drop at text.now)) result }
 {
     if byte_is(text, at, 0, b'(') {
         return bracket(text, at);

@@ -1,8 +1,8 @@
 // The lines of nodes and of quantifiers.
 ghost use Rattle.std.specs.Prelude.{◌≡◌, cond, ◌||◌, ◌≤◌, pos, length, drop};
-ghost use Rattle.checker.specs.Claim.{intQ, countQ};
+ghost use Rattle.checker.specs.Claim.{int_q, count_q};
 ghost use Rattle.checker.specs.Words.{quantifier_word};
-ghost use Rattle.sentence.specs.Scan.{is, lineFrom, afterQuantify, afterGuard, quantifierFrom};
+ghost use Rattle.sentence.specs.Scan.{is, line_from, after_quantify, after_guard, quantifier_from};
 ghost use Rattle.scanner.specs.Places.{most, At, LineAt, BoundAt};
 
 use crate::expressions::expression;
@@ -12,7 +12,7 @@ use crate::{Bound, Line};
 // (let ((n9 E))
 pub fn line_at(text: &[u8], at: usize) -> Line
     requires { at ≤ length text.now }
-    ensures { LineAt text.now (lineFrom most (drop at text.now)) result }
+    ensures { LineAt text.now (line_from most (drop at text.now)) result }
 {
     let name = numeral_at(text, past(text, at, 8));
     let bound = expression(text, past(text, name.next, 1));
@@ -50,7 +50,7 @@ fn guards(text: &[u8], at: usize) -> bool
 // (exists ((q7 Int)) or (forall ((q7 Int))
 fn after_quantify(text: &[u8], at: usize) -> usize
     requires { at ≤ length text.now }
-    ensures { At text.now (afterQuantify most (drop at text.now)) result }
+    ensures { At text.now (after_quantify most (drop at text.now)) result }
 {
     let name = numeral_at(text, past(text, at, 11));
     past(text, name.next, 7)
@@ -69,14 +69,14 @@ fn guard_opens(some: bool) -> usize
 // (and (>= q7 0) or (=> (>= q7 0)
 fn after_guard(text: &[u8], at: usize, some: bool) -> usize
     requires { at ≤ length text.now }
-    ensures { At text.now (afterGuard most some (drop at text.now)) result }
+    ensures { At text.now (after_guard most some (drop at text.now)) result }
 {
     let name = numeral_at(text, past(text, at, guard_opens(some)));
     past(text, name.next, 4)
 }
 
 fn integer_kind(some: bool) -> usize
-    ensures { quantifier_word (intQ some) ≡ pos result }
+    ensures { quantifier_word (int_q some) ≡ pos result }
 {
     if some {
         return 1;
@@ -85,7 +85,7 @@ fn integer_kind(some: bool) -> usize
 }
 
 fn count_kind(some: bool) -> usize
-    ensures { quantifier_word (countQ some) ≡ pos result }
+    ensures { quantifier_word (count_q some) ≡ pos result }
 {
     if some {
         return 5;
@@ -95,7 +95,7 @@ fn count_kind(some: bool) -> usize
 
 pub fn quantifier_at(text: &[u8], at: usize) -> Bound
     requires { at ≤ length text.now }
-    ensures { BoundAt text.now (quantifierFrom most (drop at text.now)) result }
+    ensures { BoundAt text.now (quantifier_from most (drop at text.now)) result }
 {
     let some = byte_is(text, at, 1, b'e');
     let next = after_quantify(text, at);

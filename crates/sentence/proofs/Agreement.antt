@@ -11,7 +11,7 @@ use lib.Dec.{leb-suc-zero, eqb}
 use lib.IntN.{ℤ, pos, negsuc}
 use lib.ListN.{length, get_or}
 use lib.Signed.{lt_z, non_neg}
-use Rattle.checker.specs.Claim.{Node, set_var, empty, whole, union, inter, compl, num_var, const, maxc, sum, diff, multiple, card, equal, less, divided, setEqual, subset, conj, disj, neg, unknown, Quantifier, intQ, setQ, countQ, Claim}
+use Rattle.checker.specs.Claim.{Node, set_var, empty, whole, union, inter, compl, num_var, const, maxc, sum, diff, multiple, card, equal, less, divided, set_equal, subset, conj, disj, neg, unknown, Quantifier, int_q, set_q, count_q, Claim}
 use Rattle.checker.specs.Sorts.{sets}
 use Rattle.checker.specs.Meaning.{Value, num, truth, as_num, as_truth, num_at, truth_at, divides, ports, value_of, values, matrix, Quantified, Holds, Subset}
 use Rattle.region.proofs.Quantified.{quantified_same}
@@ -109,7 +109,7 @@ module _ (N : ℕ) (env : Env) (us vs : List Value) (a : Agrees N env us vs) whe
   node_is (equal x y) p = like_same (rw (number_at x, number_at y))
   node_is (less x y) p = like_same (rw (number_at x, number_at y))
   node_is (divided c y) p = like_same (divisible_is env c (node y) ∙ rw (number_at y))
-  node_is (setEqual x y) p = absurd (true≢false (sym p))
+  node_is (set_equal x y) p = absurd (true≢false (sym p))
   node_is (subset x y) p = absurd (true≢false (sym p))
   node_is (conj x y) p = like_same (rw (truth_at_lem x, truth_at_lem y))
   node_is (disj x y) p = like_same (rw (truth_at_lem x, truth_at_lem y))
@@ -157,12 +157,12 @@ module _ (N : ℕ) (c : Claim) (p : AllPlain c.nodes) where
       → Means env (closed (length us) qs (lets 0 c.nodes (says (node c.root)))) ↔ Holds (Subset N) (λ s. s.members) N c qs us
   unfolding closed matrix sets
   closed_means [] env us h a = lets_mean N c.root c.nodes env us [] a p
-  closed_means (intQ some ∷ qs) env us h a =
+  closed_means (int_q some ∷ qs) env us h a =
       quantified_same some (λ k.
       rw (length-snoc us (num k))
       at (closed_means qs (bind env (variable (length us)) (num k)) (us ++ num k ∷ []) h (bind_variable N env us [] k a)))
-  closed_means (setQ some ∷ qs) env us h a = absurd (omega arith)
-  closed_means (countQ some ∷ qs) env us h a =
+  closed_means (set_q some ∷ qs) env us h a = absurd (omega arith)
+  closed_means (count_q some ∷ qs) env us h a =
       counted_iff some _ _ _ (variable_at_least env (length us)) (λ k.
       rw (length-snoc us (num (pos k)))
       at (closed_means qs (bind env (variable (length us)) (num (pos k))) (us ++ num (pos k) ∷ []) h (bind_variable N env us [] (pos k) a)))

@@ -9,14 +9,14 @@ use lib.IntN.{pos, negsuc, neg_ℤ, nat_abs}
 use lib.Dec.{eqb}
 use lib.ListN.{get_or}
 use lib.Seq.{drop-append_seam}
-use Rattle.checker.specs.Claim.{Node, set_var, empty, whole, union, inter, compl, num_var, const, maxc, sum, diff, multiple, card, equal, less, divided, setEqual, subset, conj, disj, neg, unknown}
+use Rattle.checker.specs.Claim.{Node, set_var, empty, whole, union, inter, compl, num_var, const, maxc, sum, diff, multiple, card, equal, less, divided, set_equal, subset, conj, disj, neg, unknown}
 use Rattle.checker.specs.Words.{fields_of}
 use Rattle.decimal.specs.Reading.{digit}
 use Rattle.decimal.specs.Printing.{decimal_of, decimal}
 use Rattle.sentence.specs.Bytes.{bytes}
 use Rattle.sentence.specs.Sentences.{expr_of, plain}
 use Rattle.sentence.specs.Text.{name_text, expr_text}
-use Rattle.sentence.specs.Scan.{found, oneFrom, twoFrom, minusFrom, timesFrom, equalFrom, andFrom, bracketFrom, exprFrom}
+use Rattle.sentence.specs.Scan.{found, one_from, two_from, minus_from, times_from, equal_from, and_from, bracket_from, expr_from}
 use Rattle.sentence.proofs.Numbers.{Stops, starts_other, number_read}
 
 pub zero_text : decimal 0 ≡ bytes "0"
@@ -33,22 +33,22 @@ starts_so x h n s bs = rw (append_assoc (decimal n) s bs) (starts_other x h n (s
 
 module _ (most : ℕ) where
   one_read : (f : ℕ → Node) (after : String) (n : ℕ) (bs : List ℕ) → n ≤ most → Stops (bytes after ++ bs)
-      → oneFrom most f after (decimal n ++ (bytes after ++ bs)) ≡ found (f n) bs
-  unfolding oneFrom
+      → one_from most f after (decimal n ++ (bytes after ++ bs)) ≡ found (f n) bs
+  unfolding one_from
   one_read f after n bs l h = rw (number_read most n (bytes after ++ bs) l h, drop-append_seam (bytes after) bs)
 
   two_read : (f : ℕ → ℕ → Node) (between after : String) (a b : ℕ) (bs : List ℕ) → a ≤ most → b ≤ most
       → Stops (bytes between ++ (decimal b ++ (bytes after ++ bs))) → Stops (bytes after ++ bs)
-      → twoFrom most f between after ((decimal a ++ (bytes between ++ (decimal b ++ bytes after))) ++ bs) ≡ found (f a b) bs
-  unfolding twoFrom
+      → two_from most f between after ((decimal a ++ (bytes between ++ (decimal b ++ bytes after))) ++ bs) ≡ found (f a b) bs
+  unfolding two_from
   two_read f between after a b bs l m h k =
       let next = decimal b ++ (bytes after ++ bs) in
       rw (parts (decimal a) (bytes between) (decimal b) (bytes after) bs, number_read most a (bytes between ++ next) l h, drop-append_seam (bytes between) next, number_read most b (bytes after ++ bs) m k, drop-append_seam (bytes after) bs)
 
   -- a closing bracket follows an expression
   pub expr_read : (n : Node) → plain n ≡ true → nat_abs (fields_of n).a ≤ most → nat_abs (fields_of n).b ≤ most → (bs : List ℕ)
-      → exprFrom most (expr_text (expr_of n) ++ (bytes ")" ++ bs)) ≡ found n (bytes ")" ++ bs)
-  unfolding expr_text name_text exprFrom bracketFrom minusFrom timesFrom equalFrom andFrom
+      → expr_from most (expr_text (expr_of n) ++ (bytes ")" ++ bs)) ≡ found n (bytes ")" ++ bs)
+  unfolding expr_text name_text expr_from bracket_from minus_from times_from equal_from and_from
   expr_read (set_var q) p l m bs = absurd (true≢false (sym p))
   expr_read empty p l m bs = absurd (true≢false (sym p))
   expr_read whole p l m bs = absurd (true≢false (sym p))
@@ -83,7 +83,7 @@ module _ (most : ℕ) where
   expr_read (divided (negsuc c) y) p l m bs =
       rw (zero_text, parts (decimal y) (bytes " ") (decimal (suc c)) (bytes ")") (bytes ")"))
       (two_read (λ b k. divided (neg_ℤ (pos k)) b) " " "))" y (suc c) (bytes ")" ++ bs) m l refl refl)
-  expr_read (setEqual x y) p l m bs = absurd (true≢false (sym p))
+  expr_read (set_equal x y) p l m bs = absurd (true≢false (sym p))
   expr_read (subset x y) p l m bs = absurd (true≢false (sym p))
   expr_read (conj x y) p l m bs = two_read conj " n" ")" x y (bytes ")" ++ bs) l m refl refl
   expr_read (disj x y) p l m bs = two_read disj " n" ")" x y (bytes ")" ++ bs) l m refl refl

@@ -13,7 +13,7 @@ use lib.IntN.{ℤ, pos, negsuc}
 use lib.ListN.{length, get_or}
 use Rattle.checker.specs.declared.Sort.{Sort as ClaimSort}
 use Rattle.checker.specs.declared.Sort.TheVariants.{ASet, ATerm, AFormula, NoSort}
-use Rattle.checker.specs.Claim.{Node, set_var, empty, whole, union, inter, compl, num_var, const, maxc, sum, diff, multiple, card, equal, less, divided, setEqual, subset, conj, disj, neg, unknown, Quantifier, intQ, setQ, countQ, Claim}
+use Rattle.checker.specs.Claim.{Node, set_var, empty, whole, union, inter, compl, num_var, const, maxc, sum, diff, multiple, card, equal, less, divided, set_equal, subset, conj, disj, neg, unknown, Quantifier, int_q, set_q, count_q, Claim}
 use Rattle.checker.specs.Sorts.{sort, sets, Is, Fits, AllFit, WellSorted}
 use Rattle.sentence.specs.Smt.{the_size, variable, result, plus, subtract, times, equals, below, at_least, both, either, Expr, Sentence, says}
 use Rattle.sentence.specs.Formed.{Sort, int, bool, Context, unbound, extend, Sorted, of_name, of_numeral, of_false, of_minus, of_not, of_mod, of_two, Formed, WellFormed}
@@ -69,7 +69,7 @@ module _ (qs : List Quantifier) (done : List Node) (g : Context) (b : Bound (len
   node_sorted (equal x y) p h = (bool, refl, of_two equals (term h.0) (term h.1))
   node_sorted (less x y) p h = (bool, refl, of_two below (term h.0) (term h.1))
   node_sorted (divided c y) p h = (bool, refl, divisible_sorted g c (node y) (term h))
-  node_sorted (setEqual x y) p h = absurd (true≢false (sym p))
+  node_sorted (set_equal x y) p h = absurd (true≢false (sym p))
   node_sorted (subset x y) p h = absurd (true≢false (sym p))
   node_sorted (conj x y) p h = (bool, refl, of_two both (formula h.0) (formula h.1))
   node_sorted (disj x y) p h = (bool, refl, of_two either (formula h.0) (formula h.1))
@@ -119,10 +119,10 @@ closed_formed : (i : ℕ) (qs : List Quantifier) (g : Context) (s : Sentence) �
     → ((k : Context) → Bound (i + length qs) [] k → Formed k s) → Formed g (closed i qs s)
 unfolding closed sets
 closed_formed i [] g s p b f = f g (rw (add-zero i) b)
-closed_formed i (intQ some ∷ qs) g s p b f =
+closed_formed i (int_q some ∷ qs) g s p b f =
     closed_formed (suc i) qs (extend g (variable i) int) s p (bound_variable i g b) (λ k c. f k (rw (next i qs) c))
-closed_formed i (setQ some ∷ qs) g s p b f = absurd (omega arith)
-closed_formed i (countQ some ∷ qs) g s p b f =
+closed_formed i (set_q some ∷ qs) g s p b f = absurd (omega arith)
+closed_formed i (count_q some ∷ qs) g s p b f =
     let d = bound_variable i g b in (
       of_two at_least (of_name (d.variables i (omega arith))) (of_numeral 0),
       closed_formed (suc i) qs (extend g (variable i) int) s p d (λ k c. f k (rw (next i qs) c)),

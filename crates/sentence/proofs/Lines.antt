@@ -5,7 +5,7 @@ use Prim.Native.Nat.{ℕ, suc, ◌+◌}
 use Prim.Native.Char.{code}
 use native.Mathlib.Omega.{arith}
 use lib.ListN.{length, replicate-append-replicate}
-use Rattle.checker.specs.Claim.{Node, Quantifier, intQ, setQ, countQ, Claim}
+use Rattle.checker.specs.Claim.{Node, Quantifier, int_q, set_q, count_q, Claim}
 use Rattle.decimal.specs.Printing.{decimal_of, decimal}
 use Rattle.sentence.specs.Bytes.{bytes}
 use Rattle.sentence.specs.Smt.{variable, Sentence, says}
@@ -34,10 +34,10 @@ lets_lines i (n ∷ ns) s =
 closed_lines : (i : ℕ) (qs : List Quantifier) (s : Sentence) → sentence_text (closed i qs s) ≡ quantifier_lines i qs ++ (sentence_text s ++ closing (brackets qs))
 unfolding closed sentence_text quantifier_lines quantifier_line brackets
 closed_lines i [] s = sym (append-nil (sentence_text s))
-closed_lines i (intQ some ∷ qs) s =
+closed_lines i (int_q some ∷ qs) s =
     rw (closed_lines (suc i) qs s) (lines_around (quantify_line some (variable i)) (quantifier_lines (suc i) qs) (sentence_text s) (brackets qs) 1 (brackets qs + 1) refl)
-closed_lines i (setQ some ∷ qs) s = closed_lines (suc i) qs s
-closed_lines i (countQ some ∷ qs) s =
+closed_lines i (set_q some ∷ qs) s = closed_lines (suc i) qs s
+closed_lines i (count_q some ∷ qs) s =
     let a = quantify_line some (variable i) in
     let b = count_line some i in
     let more = quantifier_lines (suc i) qs in

@@ -7,7 +7,7 @@ use Prim.Native.Nat.{ℕ}
 use lib.ListN.{length, get_or, get_or-append}
 use lib.Seq.{get_or-append_seam}
 use Rattle.checker.specs.declared.Sort.TheVariants.{ASet}
-use Rattle.checker.specs.Claim.{Node, set_var, empty, whole, union, inter, compl, num_var, const, maxc, sum, diff, multiple, card, equal, less, divided, setEqual, subset, conj, disj, neg, unknown, Quantifier, Claim}
+use Rattle.checker.specs.Claim.{Node, set_var, empty, whole, union, inter, compl, num_var, const, maxc, sum, diff, multiple, card, equal, less, divided, set_equal, subset, conj, disj, neg, unknown, Quantifier, Claim}
 use Rattle.checker.specs.Kinds.{is_set}
 use Rattle.checker.specs.Sorts.{sort, sets, Is, Fits, AllFit, WellSorted}
 use Rattle.sentence.specs.Sentences.{plain, AllPlain, Plain}
@@ -34,7 +34,7 @@ module _ (qs : List Quantifier) (done : List Node) (none : (a : ℕ) → Is ASet
   fits_plain (equal x y) s h = refl
   fits_plain (less x y) s h = refl
   fits_plain (divided c y) s h = refl
-  fits_plain (setEqual x y) s h = absurd (none x h.0)
+  fits_plain (set_equal x y) s h = absurd (none x h.0)
   fits_plain (subset x y) s h = absurd (none x h.0)
   fits_plain (conj x y) s h = refl
   fits_plain (disj x y) s h = refl

@@ -52,13 +52,13 @@ text_once c d p q e =
 
 -- ---- the reader's answer
 
-module _ (Taken : Claim → Type 0) (taken-plain : (c : Claim) → Taken c → Plain c) (text : List ℕ) where
+module _ (Taken : Claim → Type 0) (taken_plain : (c : Claim) → Taken c → Plain c) (text : List ℕ) where
   -- at most one claim that the writer takes has this text
   pub reads_once : (c d : Claim) → Reads Taken text c → Reads Taken text d → c ≡ d
-  reads_once c d (p, e) (q, f) = text_once c d (taken-plain c p) (taken-plain d q) (e ∙ sym f)
+  reads_once c d (p, e) (q, f) = text_once c d (taken_plain c p) (taken_plain d q) (e ∙ sym f)
 
   -- and if there is one, then it is what the text was scanned as
   pub reads_scan : (most : Limits) → ((c : Claim) → Taken c → Within most c) → (c : Claim) → Reads Taken text c → Reads Taken text (scan most text)
   reads_scan most within c (p, e) =
-      let s : scan most text ≡ c = ap (scan most) (sym e) ∙ scan_text most c (taken-plain c p) (within c p) in
+      let s : scan most text ≡ c = ap (scan most) (sym e) ∙ scan_text most c (taken_plain c p) (within c p) in
       rw s (p, e)

@@ -6,7 +6,7 @@ use mathlib.Core.List.{List, [], ◌∷◌, ◌++◌}
 use Prim.Native.Nat.{ℕ}
 use Prim.Native.String.{String}
 use lib.IntN.{pos, negsuc}
-use Rattle.checker.specs.Claim.{num_var, const, maxc, sum, diff, multiple, equal, less, divided, conj, disj, neg, intQ, countQ, Claim}
+use Rattle.checker.specs.Claim.{num_var, const, maxc, sum, diff, multiple, equal, less, divided, conj, disj, neg, int_q, count_q, Claim}
 use Rattle.decimal.specs.Printing.{decimal_of, decimal}
 use Rattle.sentence.specs.Bytes.{bytes}
 use Rattle.sentence.specs.Sentences.{lets, closed, sentence_of, asserted, commands}
@@ -22,7 +22,7 @@ abbrev sample : Claim
 sample =
     record {
       nodes = num_var 1 ∷ const (pos 1) ∷ equal 0 1 ∷ maxc ∷ num_var 0 ∷ num_var 1 ∷ sum 4 5 ∷ equal 3 6 ∷ conj 7 2 ∷ [];
-      quantifiers = countQ true ∷ countQ true ∷ [];
+      quantifiers = count_q true ∷ count_q true ∷ [];
       root = 8;
     }
 
@@ -75,7 +75,7 @@ every =
           ∷ conj 14 15
           ∷ disj 17 16
           ∷ [];
-      quantifiers = intQ true ∷ intQ false ∷ countQ true ∷ countQ false ∷ [];
+      quantifiers = int_q true ∷ int_q false ∷ count_q true ∷ count_q false ∷ [];
       root = 18;
     }
 

@@ -2,7 +2,7 @@
 -- closing brackets, and what stands last. Assumes nothing.
 use Rattle.std.specs.Prelude.{Bool, List, [], ◌∷◌, ◌++◌, ℕ, suc, ◌+◌, length, replicate}
 use Prim.Native.Char.{code}
-use Rattle.checker.specs.Claim.{Node, Quantifier, intQ, setQ, countQ, Claim}
+use Rattle.checker.specs.Claim.{Node, Quantifier, int_q, set_q, count_q, Claim}
 use Rattle.decimal.specs.Printing.{decimal}
 use Rattle.sentence.specs.Bytes.{bytes}
 use Rattle.sentence.specs.Smt.{variable, result, named}
@@ -30,9 +30,9 @@ count_line some i = guard_line some (not_negative (named (variable i)))
 
 -- the lines of quantifier i
 unfoldable pub quantifier_line : ℕ → Quantifier → List ℕ
-quantifier_line i (intQ some) = quantify_line some (variable i)
-quantifier_line i (setQ some) = []
-quantifier_line i (countQ some) = quantify_line some (variable i) ++ count_line some i
+quantifier_line i (int_q some) = quantify_line some (variable i)
+quantifier_line i (set_q some) = []
+quantifier_line i (count_q some) = quantify_line some (variable i) ++ count_line some i
 
 -- the lines of the quantifiers from number i on
 unfoldable pub quantifier_lines : ℕ → List Quantifier → List ℕ
@@ -42,9 +42,9 @@ quantifier_lines i (q ∷ qs) = quantifier_line i q ++ quantifier_lines (suc i) 
 -- how many brackets the lines of the quantifiers leave open
 unfoldable pub brackets : List Quantifier → ℕ
 brackets [] = 0
-brackets (intQ some ∷ qs) = brackets qs + 1
-brackets (setQ some ∷ qs) = brackets qs
-brackets (countQ some ∷ qs) = brackets qs + 2
+brackets (int_q some ∷ qs) = brackets qs + 1
+brackets (set_q some ∷ qs) = brackets qs
+brackets (count_q some ∷ qs) = brackets qs + 2
 
 -- k closing brackets
 abbrev pub closing : ℕ → List ℕ

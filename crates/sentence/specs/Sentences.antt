@@ -2,7 +2,7 @@
 -- Assumes nothing.
 use Rattle.std.specs.Prelude.{◌≡◌, Bool, List, [], ◌∷◌, ℕ, zero, suc, ℤ, pos, negsuc}
 use Rattle.checker.specs.declared.Dialect.TheVariants.{Emitted}
-use Rattle.checker.specs.Claim.{Node, set_var, empty, whole, union, inter, compl, num_var, const, maxc, sum, diff, multiple, card, equal, less, divided, setEqual, subset, conj, disj, neg, unknown, Quantifier, intQ, setQ, countQ, Claim}
+use Rattle.checker.specs.Claim.{Node, set_var, empty, whole, union, inter, compl, num_var, const, maxc, sum, diff, multiple, card, equal, less, divided, set_equal, subset, conj, disj, neg, unknown, Quantifier, int_q, set_q, count_q, Claim}
 use Rattle.checker.specs.Words.{fields_of}
 use Rattle.checker.specs.Sorts.{sets}
 use Rattle.checker.specs.Dialect.{takes_kind}
@@ -58,7 +58,7 @@ expr_of (card a) = untrue
 expr_of (equal a b) = two equals (node a) (node b)
 expr_of (less a b) = two below (node a) (node b)
 expr_of (divided c b) = divisible c (node b)
-expr_of (setEqual a b) = untrue
+expr_of (set_equal a b) = untrue
 expr_of (subset a b) = untrue
 expr_of (conj a b) = two both (node a) (node b)
 expr_of (disj a b) = two either (node a) (node b)
@@ -79,9 +79,9 @@ lets i (n ∷ ns) s = let_in (result i) (expr_of n) (lets (suc i) ns s)
 -- Each of the quantifiers, from number i on; a count is at least 0. A set quantifier, which no plain claim has, is passed over.
 unfoldable pub closed : ℕ → List Quantifier → Sentence → Sentence
 closed i [] s = s
-closed i (intQ some ∷ qs) s = quantify some (variable i) (closed (suc i) qs s)
-closed i (setQ some ∷ qs) s = closed (suc i) qs s
-closed i (countQ some ∷ qs) s = quantify some (variable i) (guarded some (not_negative (named (variable i))) (closed (suc i) qs s))
+closed i (int_q some ∷ qs) s = quantify some (variable i) (closed (suc i) qs s)
+closed i (set_q some ∷ qs) s = closed (suc i) qs s
+closed i (count_q some ∷ qs) s = quantify some (variable i) (guarded some (not_negative (named (variable i))) (closed (suc i) qs s))
 
 unfoldable pub sentence_of : Claim → Sentence
 sentence_of c = closed 0 c.quantifiers (lets 0 c.nodes (says (node c.root)))

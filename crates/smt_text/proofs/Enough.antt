@@ -10,7 +10,7 @@ use lib.IntN.{pos}
 use lib.ListN.{length, length-append}
 use Rattle.checker.specs.declared.Dialect.TheVariants.{Emitted}
 use Rattle.checker.specs.Dialect.{most_nodes, most_quantifiers}
-use Rattle.checker.specs.Claim.{Node, Quantifier, Claim, set_var, empty, whole, union, inter, compl, num_var, const, maxc, sum, diff, multiple, card, equal, less, divided, setEqual, subset, conj, disj, neg, unknown, intQ, setQ, countQ}
+use Rattle.checker.specs.Claim.{Node, Quantifier, Claim, set_var, empty, whole, union, inter, compl, num_var, const, maxc, sum, diff, multiple, card, equal, less, divided, set_equal, subset, conj, disj, neg, unknown, int_q, set_q, count_q}
 use Rattle.checker.specs.Kinds.{number, node_of}
 use Rattle.checker.specs.Words.{words_of}
 use Rattle.checker.specs.Sorts.{Fits, AllFit, WellSorted}
@@ -36,9 +36,9 @@ quantifiers_short (q ∷ qs) i h =
 brackets_few : (qs : List Quantifier) → brackets qs ≤ 2 * length qs
 unfolding brackets
 brackets_few [] = omega arith
-brackets_few (intQ some ∷ qs) = omega (arith, brackets_few qs)
-brackets_few (setQ some ∷ qs) = omega (arith, brackets_few qs)
-brackets_few (countQ some ∷ qs) = omega (arith, brackets_few qs)
+brackets_few (int_q some ∷ qs) = omega (arith, brackets_few qs)
+brackets_few (set_q some ∷ qs) = omega (arith, brackets_few qs)
+brackets_few (count_q some ∷ qs) = omega (arith, brackets_few qs)
 
 -- ---- nodes
 
@@ -69,7 +69,7 @@ module _ (qs : List Quantifier) (few : length qs ≤ most_quantifiers Emitted) w
     node_short (equal a b) f s = line_short (pos a) (pos b) (child a f.0.0) (child b f.1.0) i 20 h
     node_short (less a b) f s = line_short (pos a) (pos b) (child a f.0.0) (child b f.1.0) i 21 h
     node_short (divided w b) f s = line_short w (pos b) s (child b f.0) i 22 h
-    node_short (setEqual a b) f s = line_short (pos a) (pos b) (child a f.0.0) (child b f.1.0) i 23 h
+    node_short (set_equal a b) f s = line_short (pos a) (pos b) (child a f.0.0) (child b f.1.0) i 23 h
     node_short (subset a b) f s = line_short (pos a) (pos b) (child a f.0.0) (child b f.1.0) i 24 h
     node_short (conj a b) f s = line_short (pos a) (pos b) (child a f.0.0) (child b f.1.0) i 25 h
     node_short (disj a b) f s = line_short (pos a) (pos b) (child a f.0.0) (child b f.1.0) i 26 h

@@ -8,7 +8,7 @@ use lib.IntN.{ℤ, pos}
 use lib.ListN.{length}
 use mir.Syntax.{w32}
 use mir.Val.{SFits}
-use Rattle.checker.specs.Claim.{Node, Quantifier, Claim, set_var, empty, whole, union, inter, compl, num_var, const, maxc, sum, diff, multiple, card, equal, less, divided, setEqual, subset, conj, disj, neg, unknown, intQ, setQ, countQ}
+use Rattle.checker.specs.Claim.{Node, Quantifier, Claim, set_var, empty, whole, union, inter, compl, num_var, const, maxc, sum, diff, multiple, card, equal, less, divided, set_equal, subset, conj, disj, neg, unknown, int_q, set_q, count_q}
 use Rattle.checker.specs.Meaning.{Set}
 use Rattle.emission.specs.Emission.{Place, region_node, Frame, start, inside_all, sum_run, card_run, last, empty_run, both_run, run_of, Emitted, emit_node, emit_nodes, five, further_fives, constraint, Body, split_run, join_some, join_all, join, body, emission, size, counts}
 use Rattle.reducer.proofs.Stands.{nothing, run_at}
@@ -32,7 +32,7 @@ free (card a) = pos 0
 free (equal a b) = pos 0
 free (less a b) = pos 0
 free (divided w b) = w
-free (setEqual a b) = pos 0
+free (set_equal a b) = pos 0
 free (subset a b) = pos 0
 free (conj a b) = pos 0
 free (disj a b) = pos 0
@@ -98,7 +98,7 @@ of_run f k st pat (card a) h = of_card f.place _ k
 of_run f k st pat (equal a b) h = (h, tt)
 of_run f k st pat (less a b) h = (h, tt)
 of_run f k st pat (divided w b) h = (h, tt)
-of_run f k st pat (setEqual a b) h = of_both f.place _ _ k
+of_run f k st pat (set_equal a b) h = of_both f.place _ _ k
 of_run f k st pat (subset a b) h = of_empty f.place _ k
 of_run f k st pat (conj a b) h = (h, tt)
 of_run f k st pat (disj a b) h = (h, tt)
@@ -130,14 +130,14 @@ of_split f k =
 
 of_join : (f : Frame) (q : Quantifier) (b : Body) → FreeSmall b.nodes → FreeSmall (join f q b).nodes
 unfolding join_some join_all
-of_join f (intQ some) b h = h
-of_join f (setQ true) b h =
+of_join f (int_q some) b h = h
+of_join f (set_q true) b h =
     let nodes = b.nodes ++ split_run f (length b.nodes) in
     append nodes (conj (last 0 nodes) b.root ∷ []) (append b.nodes _ h (of_split f _)) (zero_small, tt)
-of_join f (setQ false) b h =
+of_join f (set_q false) b h =
     let nodes = b.nodes ++ split_run f (length b.nodes) in
     append nodes (neg (last 0 nodes) ∷ disj (length nodes) b.root ∷ []) (append b.nodes _ h (of_split f _)) (zero_small, (zero_small, tt))
-of_join f (countQ some) b h = h
+of_join f (count_q some) b h = h
 
 pub emission_free : (c : Claim) → FreeSmall c.nodes → FreeSmall (emission c).nodes
 unfolding emission body nothing

@@ -56,9 +56,9 @@ module _ (c : Claim) where
     written : n ≡ length (text_of c)
     written = w.after ∙ zero-add (length (text_of c))
 
-    pub written-fitted : Bytes n ≡ fitted (length l) c
+    pub written_fitted : Bytes n ≡ fitted (length l) c
     unfolding fitted
-    written-fitted = rw (le-ltb (length l) (length (text_of c)) h, written)
+    written_fitted = rw (le-ltb (length l) (length (text_of c)) h, written)
 
     pub written_held : l' ≡ held_after (Bytes n) c l
     unfolding held_after

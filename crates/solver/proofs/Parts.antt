@@ -4,7 +4,7 @@ use mathlib.Core.Bool.{true, false}
 use mathlib.Core.List.{List, [], ◌++◌, append_assoc}
 use Prim.Native.Nat.{ℕ, zero, suc}
 use lib.IntN.{pos}
-use Rattle.checker.specs.Claim.{Node, intQ}
+use Rattle.checker.specs.Claim.{Node, int_q}
 use Rattle.checker.specs.Kinds.{number, quantifier_of}
 use Rattle.decimal.specs.Printing.{decimal}
 use Rattle.sentence.specs.Bytes.{bytes}
@@ -33,7 +33,7 @@ count_all i = rw (zero_text, append_assoc (decimal i) (bytes " 0)") (bytes "\n")
 abbrev pub OtherQuantifier : ℕ → Type 0
 OtherQuantifier k = ((((Unit {0} × (k ≡ 2 → ⊥)) × (k ≡ 3 → ⊥)) × (k ≡ 4 → ⊥)) × (k ≡ 5 → ⊥)) × (k ≡ 6 → ⊥)
 
-other_exists : (k : ℕ) → OtherQuantifier k → quantifier_of (pos k) ≡ intQ true
+other_exists : (k : ℕ) → OtherQuantifier k → quantifier_of (pos k) ≡ int_q true
 unfolding quantifier_of number
 other_exists zero h = refl
 other_exists (suc zero) h = refl

@@ -12,7 +12,7 @@ use lib.IntN.{ℤ, pos, negsuc, nat_abs}
 use lib.ListN.{length, length-append}
 use mir.Syntax.{w32}
 use mir.Val.{SFits}
-use Rattle.checker.specs.Claim.{Quantifier, intQ, setQ, countQ}
+use Rattle.checker.specs.Claim.{Quantifier, int_q, set_q, count_q}
 use Rattle.checker.specs.Kinds.{number, sort_table, node_of}
 use Rattle.checker.proofs.Rowwise.{◌▸◌}
 use Rattle.decimal.specs.Printing.{decimal}
@@ -115,11 +115,11 @@ count_short s g i l m h =
 
 pub quantifier_short : (i : ℕ) (q : Quantifier) → Ten i → length (quantifier_line i q) ≤ longest_line
 unfolding quantifier_line quantify_line name_text
-quantifier_short i (intQ true) h = omega (arith, one_short (bytes "(exists ((q") i (bytes " Int))\n") h)
-quantifier_short i (intQ false) h = omega (arith, one_short (bytes "(forall ((q") i (bytes " Int))\n") h)
-quantifier_short i (setQ some) h = omega arith
-quantifier_short i (countQ true) h = rw (count_some i) (count_short (bytes "(exists ((q") (bytes "(and (>= q") i (omega arith) (omega arith) h)
-quantifier_short i (countQ false) h = rw (count_all i) (count_short (bytes "(forall ((q") (bytes "(=> (>= q") i (omega arith) (omega arith) h)
+quantifier_short i (int_q true) h = omega (arith, one_short (bytes "(exists ((q") i (bytes " Int))\n") h)
+quantifier_short i (int_q false) h = omega (arith, one_short (bytes "(forall ((q") i (bytes " Int))\n") h)
+quantifier_short i (set_q some) h = omega arith
+quantifier_short i (count_q true) h = rw (count_some i) (count_short (bytes "(exists ((q") (bytes "(and (>= q") i (omega arith) (omega arith) h)
+quantifier_short i (count_q false) h = rw (count_all i) (count_short (bytes "(forall ((q") (bytes "(=> (>= q") i (omega arith) (omega arith) h)
 
 pub root_short : (r : ℕ) → r < 2 ^ 64 → length (root_line r) ≤ longest_line
 root_short r h = simp length-append (omega (arith, decimal_short r h))

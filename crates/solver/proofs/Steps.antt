@@ -8,7 +8,7 @@ use native.Mathlib.Omega.{arith}
 use lib.IntN.{ℤ, pos}
 use lib.ListN.{length, drop, get_or, replicate, drop_of_length-le}
 use lib.Seq.{drop-cons}
-use Rattle.checker.specs.Claim.{Node, unknown, Quantifier, intQ, setQ, countQ}
+use Rattle.checker.specs.Claim.{Node, unknown, Quantifier, int_q, set_q, count_q}
 use Rattle.checker.specs.Kinds.{number, node_of, quantifier_of}
 use Rattle.checker.specs.Words.{word, word_at, nodes_in, quantifiers_in, node_at, quantifier_at, claim_of}
 use Rattle.checker.proofs.Tab.{tab_at, tab-length}
@@ -22,9 +22,9 @@ module _ (ws : List ℤ) where
   abbrev qs : List Quantifier
   qs = (claim_of ws).quantifiers
 
-  node_count : length ns ≡ nodes_in ws
+  node_count_lem : length ns ≡ nodes_in ws
   unfolding claim_of
-  node_count = tab-length (nodes_in ws) (node_at ws)
+  node_count_lem = tab-length (nodes_in ws) (node_at ws)
 
   quantifier_count : length qs ≡ quantifiers_in ws
   unfolding claim_of
@@ -34,7 +34,7 @@ module _ (ws : List ℤ) where
 
   node_at_lem : (i : ℕ) → i < length ns → get_or ns i unknown ≡ node_at ws i
   unfolding claim_of
-  node_at_lem i h = tab_at (nodes_in ws) (node_at ws) unknown i (omega (arith, node_count))
+  node_at_lem i h = tab_at (nodes_in ws) (node_at ws) unknown i (omega (arith, node_count_lem))
 
   pub node_step : (i : ℕ) → i < length ns → node_lines i (drop i ns) ≡ node_line i (node_at ws i) ++ node_lines (i + 1) (drop (i + 1) ns)
   unfolding node_lines
@@ -49,21 +49,21 @@ module _ (ws : List ℤ) where
 
   -- the kind of quantifier i is k, where there are n nodes
   module _ (n i : ℕ) {k : ℕ} (all : n ≡ length ns) (h : i < length qs) (is : k ≡ word_at ws (3 * n + i)) where
-    quantifier_at_lem : get_or qs i (intQ true) ≡ quantifier_of (pos k)
+    quantifier_at_lem : get_or qs i (int_q true) ≡ quantifier_of (pos k)
     unfolding claim_of quantifier_of number word_at
-    quantifier_at_lem = tab_at (quantifiers_in ws) (quantifier_at ws (nodes_in ws)) (intQ true) i (omega (arith, quantifier_count)) ∙ rw (← node_count, ← all, is)
+    quantifier_at_lem = tab_at (quantifiers_in ws) (quantifier_at ws (nodes_in ws)) (int_q true) i (omega (arith, quantifier_count)) ∙ rw (← node_count_lem, ← all, is)
 
     pub quantifier_step : quantifier_lines i (drop i qs) ≡ quantifier_line i (quantifier_of (pos k)) ++ quantifier_lines (i + 1) (drop (i + 1) qs)
     unfolding quantifier_lines
-    quantifier_step = rw (add-one i, drop-cons qs i (intQ true) h, quantifier_at_lem)
+    quantifier_step = rw (add-one i, drop-cons qs i (int_q true) h, quantifier_at_lem)
 
     pub brackets_step : brackets (drop i qs) ≡ opened_by (quantifier_of (pos k)) + brackets (drop (i + 1) qs)
-    brackets_step = rw (add-one i, drop-cons qs i (intQ true) h, quantifier_at_lem) (more (quantifier_of (pos k)) (drop (suc i) qs))
+    brackets_step = rw (add-one i, drop-cons qs i (int_q true) h, quantifier_at_lem) (more (quantifier_of (pos k)) (drop (suc i) qs))
       where
         more : (q : Quantifier) (qs : List Quantifier) → brackets (q ∷ qs) ≡ opened_by q + brackets qs
-        more (intQ some) qs = unfold brackets in omega arith
-        more (setQ some) qs = unfold brackets in omega arith
-        more (countQ some) qs = unfold brackets in omega arith
+        more (int_q some) qs = unfold brackets in omega arith
+        more (set_q some) qs = unfold brackets in omega arith
+        more (count_q some) qs = unfold brackets in omega arith
 
 -- ---- ends
 

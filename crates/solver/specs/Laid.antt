@@ -3,7 +3,7 @@
 use Rattle.std.specs.Prelude.{◌≡◌, List, ℕ, ◌+◌, ◌*◌, ◌^◌, ◌<◌, ◌≤◌, ℤ, length}
 use Rattle.checker.specs.declared.Shape.{Shape}
 use Rattle.checker.specs.declared.Dialect.TheVariants.{Emitted}
-use Rattle.checker.specs.Claim.{Quantifier, intQ, setQ, countQ}
+use Rattle.checker.specs.Claim.{Quantifier, int_q, set_q, count_q}
 use Rattle.checker.specs.Words.{claim_of}
 use Rattle.checker.specs.Dialect.{most_nodes, most_quantifiers}
 use Rattle.sentence.specs.Bytes.{bytes}
@@ -32,6 +32,6 @@ root_line r = one_text (bytes "n") r (bytes "\n")
 
 -- how many brackets the lines of a quantifier leave open
 abbrev pub opened_by : Quantifier → ℕ
-opened_by (intQ some) = 1
-opened_by (setQ some) = 0
-opened_by (countQ some) = 2
+opened_by (int_q some) = 1
+opened_by (set_q some) = 0
+opened_by (count_q some) = 2

@@ -16,9 +16,9 @@ scanned : (t : Bool) (m n : ℕ) → cond t (Words m) NoWords ≡ Words n → (t
 scanned true m n e = (refl, cc)
 scanned false m n e = let z : ◌≡◌ {A = ℕ} 0 1 = cc in absurd (omega arith)
 
-not-scanned : (t : Bool) (m : ℕ) → cond t (Words m) NoWords ≡ NoWords → t ≡ false
-not-scanned true m e = let z : ◌≡◌ {A = ℕ} 0 1 = cc in absurd (omega arith)
-not-scanned false m e = refl
+not_scanned : (t : Bool) (m : ℕ) → cond t (Words m) NoWords ≡ NoWords → t ≡ false
+not_scanned true m e = let z : ◌≡◌ {A = ℕ} 0 1 = cc in absurd (omega arith)
+not_scanned false m e = refl
 
 -- n words were read onto l, which is then l'
 module _ (l l' : List ℤ) (r : Reading) (n : ℕ) {s : Scanned} (says : s ≡ scanned_of r) (leaves : l' ≡ onto l r) (is : s ≡ Words n) where
@@ -26,18 +26,18 @@ module _ (l l' : List ℤ) (r : Reading) (n : ℕ) {s : Scanned} (says : s ≡ s
   unfolding scanned_of
   read_all = scanned r.all (length r.words) n (sym says ∙ is)
 
-  pub read-within : n ≤ length l'
+  pub read_within : n ≤ length l'
   unfolding onto
-  read-within = rw (leaves, length-append r.words) (omega (arith, read_all.1))
+  read_within = rw (leaves, length-append r.words) (omega (arith, read_all.1))
 
-  read-words : take n l' ≡ r.words
+  read_words : take n l' ≡ r.words
   unfolding onto
-  read-words = rw leaves (take_at r.words (drop (length r.words) l) n read_all.1)
+  read_words = rw leaves (take_at r.words (drop (length r.words) l) n read_all.1)
 
-  pub read-answered : (f : List ℤ → List ℕ) → answered f r ≡ f (take n l')
+  pub read_answered : (f : List ℤ → List ℕ) → answered f r ≡ f (take n l')
   unfolding answered
-  read-answered f = rw (read_all.0, read-words)
+  read_answered f = rw (read_all.0, read_words)
 
-pub not-answered : (f : List ℤ → List ℕ) (r : Reading) {s : Scanned} → s ≡ scanned_of r → s ≡ NoWords → answered f r ≡ unread
+pub not_answered : (f : List ℤ → List ℕ) (r : Reading) {s : Scanned} → s ≡ scanned_of r → s ≡ NoWords → answered f r ≡ unread
 unfolding answered scanned_of
-not-answered f r says is = rw (not-scanned r.all (length r.words) (sym says ∙ is))
+not_answered f r says is = rw (not_scanned r.all (length r.words) (sym says ∙ is))

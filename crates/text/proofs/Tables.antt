@@ -11,7 +11,7 @@ use Rattle.decimal.specs.Printing.{line_text}
 use Rattle.checker.specs.Claim.{Node, Claim}
 use Rattle.checker.specs.Words.{node_words, nodes_words, quantifier_word, trailer, words_of, claim_of, nodes_in}
 use Rattle.checker.proofs.Words.{nodes_words-length, words-length}
-use Rattle.checker.proofs.Claims.{node_count}
+use Rattle.checker.proofs.Claims.{node_count_lem}
 use Rattle.text.specs.Answer.{nodes_text, table_text}
 use Rattle.text.specs.Lines.{node_lines}
 
@@ -42,40 +42,40 @@ lines_nodes (n ∷ ns) ws = ap (λ t. line_text (node_words n) ++ t) (lines_node
 
 -- The words of a claim, by their places.
 module _ (c : Claim) where
-  abbrev nodeCount : ℕ
-  nodeCount = length c.nodes
+  abbrev node_count : ℕ
+  node_count = length c.nodes
 
-  abbrev trailerAt : ℕ
-  trailerAt = length (words_of c) - 4
+  abbrev trailer_at : ℕ
+  trailer_at = length (words_of c) - 4
 
   quantifier_words : List ℤ
   quantifier_words = map quantifier_word c.quantifiers
 
-  nodes_end : length (nodes_words c.nodes) ≡ 3 * nodeCount
+  nodes_end : length (nodes_words c.nodes) ≡ 3 * node_count
   nodes_end = nodes_words-length c.nodes
 
-  after_nodes : drop (3 * nodeCount) (words_of c) ≡ quantifier_words ++ trailer c
+  after_nodes : drop (3 * node_count) (words_of c) ≡ quantifier_words ++ trailer c
   unfolding words_of quantifier_words
-  after_nodes = drop_at (nodes_words c.nodes) _ (3 * nodeCount) nodes_end
+  after_nodes = drop_at (nodes_words c.nodes) _ (3 * node_count) nodes_end
 
-  middle : length quantifier_words ≡ trailerAt - 3 * nodeCount
+  middle : length quantifier_words ≡ trailer_at - 3 * node_count
   unfolding quantifier_words
   middle = omega (arith, words-length c, length-map c.quantifiers quantifier_word)
 
-  the_quantifiers : take (trailerAt - 3 * nodeCount) (drop (3 * nodeCount) (words_of c)) ≡ quantifier_words
+  the_quantifiers : take (trailer_at - 3 * node_count) (drop (3 * node_count) (words_of c)) ≡ quantifier_words
   the_quantifiers = rw after_nodes (take_at quantifier_words (trailer c) _ middle)
 
-  the_trailer : drop trailerAt (words_of c) ≡ trailer c
+  the_trailer : drop trailer_at (words_of c) ≡ trailer c
   the_trailer =
-      let e : trailerAt ≡ 3 * nodeCount + (trailerAt - 3 * nodeCount) = omega (arith, words-length c) in
-      rw (e, ← drop-drop (trailerAt - 3 * nodeCount) (3 * nodeCount) (words_of c), after_nodes) (drop_at quantifier_words (trailer c) _ middle)
+      let e : trailer_at ≡ 3 * node_count + (trailer_at - 3 * node_count) = omega (arith, words-length c) in
+      rw (e, ← drop-drop (trailer_at - 3 * node_count) (3 * node_count) (words_of c), after_nodes) (drop_at quantifier_words (trailer c) _ middle)
 
-  the_nodes : node_lines nodeCount (words_of c) ≡ nodes_text c.nodes
+  the_nodes : node_lines node_count (words_of c) ≡ nodes_text c.nodes
   unfolding words_of
   the_nodes = lines_nodes c.nodes _
 
-  table_lines : node_lines nodeCount (words_of c)
-      ++ (line_text (take (trailerAt - 3 * nodeCount) (drop (3 * nodeCount) (words_of c))) ++ line_text (drop trailerAt (words_of c)))
+  table_lines : node_lines node_count (words_of c)
+      ++ (line_text (take (trailer_at - 3 * node_count) (drop (3 * node_count) (words_of c))) ++ line_text (drop trailer_at (words_of c)))
       ≡ table_text c
   unfolding table_text quantifier_words
   table_lines = rw (the_nodes, the_quantifiers, the_trailer)
@@ -83,7 +83,7 @@ module _ (c : Claim) where
 -- The same from the words themselves.
 module _ (ws : List ℤ) (is : words_of (claim_of ws) ≡ ws) where
   table_nodes : length (claim_of ws).nodes ≡ nodes_in ws
-  table_nodes = node_count ws
+  table_nodes = node_count_lem ws
 
   pub table_long : 3 * nodes_in ws + 4 ≤ length ws
   table_long = omega (arith, words-length (claim_of ws), table_nodes, ap length is)

@@ -5,7 +5,7 @@ use lib.ListN.{length}
 use Rattle.checker.specs.Words.{claim_of}
 use Rattle.checker.specs.Check.{refusal}
 use Rattle.sentence.specs.Text.{text_of}
-use Rattle.solver.proofs.Answers.{too_short, refused_held, written-fitted, written_held}
+use Rattle.solver.proofs.Answers.{too_short, refused_held, written_fitted, written_held}
 use Rattle.solver.proofs.write_claim.Goals as goal
 
 pub returns-then-out-needed : goal.returns-then-out-needed
@@ -23,6 +23,6 @@ returns c =
     let put = c.put_text.ensures in
     let room : length (text_of claim) ≤ length c.args.out.now = omega (arith, c.text_length-needed.ensures, c.if-out-needed.false) in
     record {
-      value = written-fitted claim put room;
+      value = written_fitted claim put room;
       out_after = written_held claim put room;
     }

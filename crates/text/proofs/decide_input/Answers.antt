@@ -2,24 +2,24 @@
 use mathlib.Core.Path.{sym}
 use lib.Seq.{length-take-le}
 use Rattle.text.specs.Answer.{decide_words}
-use Rattle.text.proofs.Answers.{read-within, read-answered, not-answered}
+use Rattle.text.proofs.Answers.{read_within, read_answered, not_answered}
 use Rattle.text.proofs.decide_input.Goals as goal
 
 pub returns-in_default : goal.returns-in_default
 returns-in_default c =
-    rw (not-answered (decide_words c.args.size c.args.allowance) _ c.read_input.ensures.value c.in_default.is) c.put_unread.ensures
+    rw (not_answered (decide_words c.args.size c.args.allowance) _ c.read_input.ensures.value c.in_default.is) c.put_unread.ensures
 
 pub slice_bounds-words-end : goal.slice_bounds-words-end
 slice_bounds-words-end c =
     let read = c.read_input.ensures in
-    read-within _ _ _ _ read.value read.words_after c.in-Words.is
+    read_within _ _ _ _ read.value read.words_after c.in-Words.is
 
 pub slice_bounds-decide_words-end : goal.slice_bounds-decide_words-end
 slice_bounds-decide_words-end c =
     let read = c.read_input.ensures in
-    sym (length-take-le _ c.read_input.new.words (read-within _ _ _ _ read.value read.words_after c.in-Words.is))
+    sym (length-take-le _ c.read_input.new.words (read_within _ _ _ _ read.value read.words_after c.in-Words.is))
 
 pub returns : goal.returns
 returns c =
     let read = c.read_input.ensures in
-    rw (read-answered _ _ _ _ read.value read.words_after c.in-Words.is (decide_words c.args.size c.args.allowance)) c.decide_words.ensures
+    rw (read_answered _ _ _ _ read.value read.words_after c.in-Words.is (decide_words c.args.size c.args.allowance)) c.decide_words.ensures

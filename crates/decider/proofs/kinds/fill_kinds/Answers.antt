@@ -5,10 +5,10 @@ use native.Mathlib.Nat.{pow-le-pow_right}
 use native.Mathlib.Omega.{arith}
 use lib.Dec.{eqb}
 use lib.ListN.{length, get_or}
-use Rattle.checker.specs.Claim.{intQ}
+use Rattle.checker.specs.Claim.{int_q}
 use Rattle.checker.specs.Words.{word_at, claim_of}
 use Rattle.checker.specs.Sorts.{sets}
-use Rattle.checker.proofs.Claims.{node_count, Sound, sound}
+use Rattle.checker.proofs.Claims.{node_count_lem, Sound, sound}
 use Rattle.decider.proofs.Levels.{is_some, Level, level_none, level_more, kind_at, kinds_more, sets_all}
 use Rattle.decider.proofs.kinds.fill_kinds.Goals as goal
 
@@ -29,7 +29,7 @@ pub overflow_cast-kind : goal.overflow_cast-kind
 overflow_cast-kind c =
     let shape : Sound c.args.words.now c.args.shape = sound c.args.words.now c.args.shape c.requires.words_value in
     let there : c.loop-q.q < length ((claim_of c.args.words.now).quantifiers) = omega (arith, c.loop-q-test.true, shape.quantifiers) in
-    let kind : (eqb (word_at c.args.words.now (3 * c.args.shape.nodes + c.loop-q.q)) 3 ≡ is_some (get_or ((claim_of c.args.words.now).quantifiers) c.loop-q.q (intQ true))) × (word_at c.args.words.now (3 * c.args.shape.nodes + c.loop-q.q) < 256) = kind_at c.args.words.now c.requires.t c.args.shape.nodes c.loop-q.q (shape.nodes ∙ node_count c.args.words.now) there in
+    let kind : (eqb (word_at c.args.words.now (3 * c.args.shape.nodes + c.loop-q.q)) 3 ≡ is_some (get_or ((claim_of c.args.words.now).quantifiers) c.loop-q.q (int_q true))) × (word_at c.args.words.now (3 * c.args.shape.nodes + c.loop-q.q) < 256) = kind_at c.args.words.now c.requires.t c.args.shape.nodes c.loop-q.q (shape.nodes ∙ node_count_lem c.args.words.now) there in
     record { fits = omega (arith, kind.1, c.word-kind.ensures) }
 
 pub overflow_add-regions : goal.overflow_add-regions
@@ -63,7 +63,7 @@ pub loop-q-preserved : goal.loop-q-preserved
 loop-q-preserved c =
     let shape : Sound c.args.words.now c.args.shape = sound c.args.words.now c.args.shape c.requires.words_value in
     let there : c.loop-q.q < length ((claim_of c.args.words.now).quantifiers) = omega (arith, c.loop-q-test.true, shape.quantifiers) in
-    let kind : (eqb (word_at c.args.words.now (3 * c.args.shape.nodes + c.loop-q.q)) 3 ≡ is_some (get_or ((claim_of c.args.words.now).quantifiers) c.loop-q.q (intQ true))) × (word_at c.args.words.now (3 * c.args.shape.nodes + c.loop-q.q) < 256) = kind_at c.args.words.now c.requires.t c.args.shape.nodes c.loop-q.q (shape.nodes ∙ node_count c.args.words.now) there in
+    let kind : (eqb (word_at c.args.words.now (3 * c.args.shape.nodes + c.loop-q.q)) 3 ≡ is_some (get_or ((claim_of c.args.words.now).quantifiers) c.loop-q.q (int_q true))) × (word_at c.args.words.now (3 * c.args.shape.nodes + c.loop-q.q) < 256) = kind_at c.args.words.now c.requires.t c.args.shape.nodes c.loop-q.q (shape.nodes ∙ node_count_lem c.args.words.now) there in
     let more : Level ((claim_of c.args.words.now).quantifiers) (c.loop-q.q + 1) (c.loop-q.regions + c.loop-q.regions) = level_more ((claim_of c.args.words.now).quantifiers) c.requires.t c.loop-q.q c.loop-q.regions there c.loop-q.invariant.2 in (
       omega (arith, c.loop-q-test.true),
       c.fill.auto.kinds ∙ c.loop-q.invariant.1,

@@ -2,7 +2,7 @@ use mathlib.Core.Bool.{true}
 use Prim.Native.Nat.{◌<◌}
 use native.Mathlib.Omega.{arith}
 use lib.ListN.{length, take}
-use Rattle.checker.specs.Claim.{intQ}
+use Rattle.checker.specs.Claim.{int_q}
 use Rattle.checker.specs.Words.{claim_of}
 use Rattle.checker.proofs.Claims.{sound}
 use Rattle.emission.proofs.Claims.{quantifier_at_lem}
@@ -41,7 +41,7 @@ loop-j-preserved c =
     let qs = (claim_of a.words.now).quantifiers in
     let more : loop.j < length qs = omega (arith, (sound c.args.words.now _ c.requires.0).quantifiers, less) in (
       omega (arith, less),
-      rw (next_taken qs (intQ true) loop.j more, quantifier_at_lem a.words.now a.shape.nodes loop.j (sound a.words.now _ c.requires.0).nodes more, ← c.word.ensures)
+      rw (next_taken qs (int_q true) loop.j more, quantifier_at_lem a.words.now a.shape.nodes loop.j (sound a.words.now _ c.requires.0).nodes more, ← c.word.ensures)
           (c.inside-frame.ensures (take loop.j qs) loop.invariant.1),
       noted_more loop.invariant.2 loop.invariant.1 (omega (arith, less)) c.requires.1 c.put_frame.ensures,
     )
