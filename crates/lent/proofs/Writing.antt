@@ -2,11 +2,13 @@
 -- Assumes nothing.
 use mathlib.Core.Path.{◌≡◌, refl, sym, ap, ◌∙◌}
 use mathlib.Core.List.{List, [], ◌∷◌, ◌++◌}
-use Prim.Native.Nat.{ℕ, suc, ◌+◌, ◌≤◌}
+use Prim.Native.Nat.{ℕ, suc, ◌+◌, ◌-◌, ◌≤◌}
 use native.Mathlib.Nat.{add-zero, zero-add, add-suc, suc-add}
 use native.Mathlib.Omega.{arith}
 use lib.ListN.{length, drop, set, length-append}
-use lib.Seq.{sets, sets-eq, length-sets}
+use lib.Seq.{sets, sets-eq, length-sets, drop-drop}
+use Rattle.std.proofs.Common.{append_assoc}
+use borrow.Rule.Slice.PartMut.{put_mid}
 use Rattle.lent.specs.Write.{Room, Wrote}
 
 sets-append : {A : Type 0} (l : List A) (i : ℕ) (us vs : List A) → sets l i (us ++ vs) ≡ sets (sets l i us) (i + length us) vs
@@ -51,3 +53,9 @@ module _ {A : Type 0} where
 
   pub rest_end : {l l₀ ws ws₀ : List A} {i i₀ : ℕ} → ws ≡ [] → Rest l i ws l₀ i₀ ws₀ → Wrote l₀ i₀ ws₀ l i
   rest_end {l} {l₀} {ws} {ws₀} {i} e r = r.whole l i (rw e (wrote_none l i))
+
+  -- the part from place i up to n was written whole
+  pub wrote_part : {l ws ys : List A} {i n : ℕ} → Room l i ws → n ≡ i + length ws → ys ≡ ws → Wrote l i ws (put_mid i (n - i) l ys) n
+  wrote_part {l} {ws} {ys} {i} {n} r at is =
+      let long : n - i ≡ length ws = omega arith in
+      record { words = rw (is, long, drop-drop, sets-eq ws l i r.fits, append_assoc); after = at }
