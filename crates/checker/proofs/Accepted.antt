@@ -1,25 +1,28 @@
 -- What the checker accepts: exactly the words of well-sorted claims within the limits of the dialect, of kinds that it takes. Assumes nothing.
 use mathlib.Core.Path.{◌≡◌, refl, sym, ◌∙◌, ap}
 use mathlib.Core.Logic.{◌↔◌}
-use mathlib.Core.Bool.{Bool, true, false}
+use mathlib.Core.Bool.{true, false}
 use mathlib.Core.List.{List, [], ◌∷◌, ◌++◌, map}
 use Prim.Native.Nat.{ℕ, zero, suc, ◌+◌, ◌*◌, ◌<◌}
 use native.Mathlib.Omega.{arith}
 use borrow.Author.Tests.{lt-ltb}
 use lib.IntN.{ℤ, pos}
+use Rattle.std.specs.Prelude.{Option, Some, None, is_some}
 use lib.ListN.{length, get_or, take, length-map, get_or-append}
 use lib.Seq.{get_or-append-add, get_or-take, length-take-le}
 use Rattle.checker.specs.declared.Dialect.{Dialect}
 use Rattle.checker.specs.declared.Dialect.TheVariants.{SetClaims}
 use Rattle.checker.specs.declared.Shape.{Shape}
 use Rattle.checker.specs.declared.Sort.TheVariants.{AFormula}
+use Rattle.checker.specs.declared.Row.{Row}
+use Rattle.checker.specs.declared.Range.TheVariants.{Sets}
 use Rattle.checker.specs.declared.Checked.TheVariants.{Accepted}
 use Rattle.checker.specs.Claim.{Node, unknown, Quantifier, int_q, set_q, count_q, Claim}
-use Rattle.checker.specs.Kinds.{number, sort_of, range_of, over_sets}
+use Rattle.checker.specs.Kinds.{number, sort_of, range_of, is_range}
 use Rattle.checker.specs.Words.{word, word_at, nodes_in, quantifiers_in, claim_of, fields_of, node_words, nodes_words, quantifier_word, trailer, words_of}
 use Rattle.checker.specs.Sorts.{sort, is_set_q, WellSorted, sets}
 use Rattle.checker.specs.Search.{count}
-use Rattle.checker.specs.Table.{field_good, node_good, child_sort, root_good, is_known, binds_set}
+use Rattle.checker.specs.Table.{field_good, obeys, node_good, child_sort, root_good, binds_set}
 use Rattle.checker.specs.Dialect.{takes_kind, takes_quantifier}
 use Rattle.checker.specs.Check.{check_as, check_of, table_at, kind_in, quantifier_kind, shape_of}
 use Rattle.checker.specs.Accepted.{LimitedAs, Limited, Taken, claim_shape}
@@ -27,7 +30,7 @@ use Rattle.checker.proofs.Tab.{tab-length}
 use Rattle.checker.proofs.Limits.{nodes_most, quantifiers_most, all_of, all_at}
 use Rattle.checker.proofs.Words.{nodes_words-length, words-length, root_word, nodes_word, quantifiers_word, mark_word}
 use Rattle.checker.proofs.Passed.{accepted_good, good_accepted}
-use Rattle.checker.proofs.Rowwise.{range, over_range, fits_served}
+use Rattle.checker.proofs.Rowwise.{range, over_range, Obeys, fits_served}
 use Rattle.checker.proofs.Reading.{claim_sorted, same_words, sets_counted, kinds_taken, quantifiers_taken}
 use Rattle.checker.proofs.Fitting.{sort_kind, fits_at, counted}
 use Rattle.checker.proofs.Bools.{joint}
@@ -121,7 +124,7 @@ module _ (d : Dialect) (c : Claim) where
       mapped (x ∷ qs) zero h = refl
       mapped (x ∷ qs) (suc i) h = mapped qs i (omega arith)
 
-  word_range : (x : Quantifier) → range_of (number (quantifier_word x)) ≡ range (is_set_q x)
+  word_range : (x : Quantifier) → range_of (number (quantifier_word x)) ≡ Some (range (is_set_q x))
   unfolding range_of number
   word_range (int_q true) = refl
   word_range (int_q false) = refl
@@ -130,11 +133,7 @@ module _ (d : Dialect) (c : Claim) where
   word_range (count_q true) = refl
   word_range (count_q false) = refl
 
-  known_range : (b : Bool) → is_known (range b) ≡ true
-  known_range true = refl
-  known_range false = refl
-
-  range_at : (i : ℕ) → i < q → range_of (quantifier_kind ws n i) ≡ range (is_set_q (get_or c.quantifiers i (int_q true)))
+  range_at : (i : ℕ) → i < q → range_of (quantifier_kind ws n i) ≡ Some (range (is_set_q (get_or c.quantifiers i (int_q true))))
   unfolding word_at
   range_at i h = ap (λ z. range_of (number z)) (quantifier_at_lem i h) ∙ word_range (get_or c.quantifiers i (int_q true))
 
@@ -142,11 +141,19 @@ module _ (d : Dialect) (c : Claim) where
   unfolding binds_set table_at
   sets_in_lem =
       counted (binds_set (table_at ws n q)) c.quantifiers
-      (λ i h. ap over_sets (range_at i h) ∙ over_range (is_set_q (get_or c.quantifiers i (int_q true))))
+      (λ i h. ap (is_range Sets) (range_at i h) ∙ over_range (is_set_q (get_or c.quantifiers i (int_q true))))
 
   module _ (limited : LimitedAs d c) (taken : Taken d c) (sorted : WellSorted c) where
+    obeyed : (i : ℕ) → i < n → (row : Option Row)
+        → Obeys c.quantifiers (take i c.nodes) (kind_in ws) (quantifier_kind ws n) row (fields_of (at i)).a (fields_of (at i)).b → obeys (table_at ws n q) i row ≡ true
+    unfolding field_good table_at
+    obeyed i h None o = absurd o
+    obeyed i h (Some row) o =
+        let l : length (take i c.nodes) ≡ i = length-take-le i c.nodes (omega arith) in
+        rw (a_at i h, b_at i h) (joint (rw l at o.0) (rw l at o.1))
+
     node_passes : (i : ℕ) → i < n → node_good (table_at ws n q) i ≡ true
-    unfolding node_good field_good table_at
+    unfolding node_good table_at
     node_passes i h =
         let l : length (take i c.nodes) ≡ i = length-take-le i c.nodes (omega arith) in
         let f = fits_served c.quantifiers (take i c.nodes) (kind_in ws) (quantifier_kind ws n)
@@ -154,7 +161,7 @@ module _ (d : Dialect) (c : Claim) where
         (λ v k. let m : v < i = omega arith in
         ap sort (get_or-take i c.nodes v unknown m) ∙ sort_kind (at v) ∙ ap sort_of (sym (kind_at v (omega arith)))) range_at
         (at i) (fits_at c.quantifiers c.nodes sorted.0 i h) in
-        rw (kind_at i h, a_at i h, b_at i h) (joint (rw l at f.0) (rw l at f.1))
+        rw (kind_at i h) (obeyed i h _ f)
 
     kind_passes : (i : ℕ) → i < n → takes_kind d (kind_in ws i) ≡ true
     kind_passes i h = ap (takes_kind d) (kind_at i h) ∙ all_at (λ x. takes_kind d (fields_of x).kind) c.nodes taken.nodes unknown i h
@@ -169,7 +176,7 @@ module _ (d : Dialect) (c : Claim) where
     unfolding root_good child_sort table_at
     root_passes =
         let h : c.root < n = sorted.1.0 in
-        let s : sort_of (kind_in ws c.root) ≡ AFormula = ap sort_of (kind_at c.root h) ∙ sym (sort_kind (at c.root)) ∙ sorted.1.1 in
+        let s : sort_of (kind_in ws c.root) ≡ Some AFormula = ap sort_of (kind_at c.root h) ∙ sym (sort_kind (at c.root)) ∙ sorted.1.1 in
         rw (root_word c, lt-ltb c.root n h, s)
 
     -- The words of a well-sorted claim within the limits, of kinds that are taken, are accepted.
@@ -188,7 +195,7 @@ module _ (d : Dialect) (c : Claim) where
           table = record {
             few_sets = omega (arith, sets_in_lem, limited.few_sets);
             quantifier_taken_lem = quantifier_passes;
-            quantifier_known = λ i h. ap is_known (range_at i h) ∙ known_range (is_set_q (get_or c.quantifiers i (int_q true)));
+            quantifier_known = λ i h. ap is_some (range_at i h);
             kind_taken = kind_passes;
             node_good_lem = node_passes;
             root_good_lem = root_passes;

@@ -8,6 +8,7 @@ use borrow.Author.Tests.{ltb-false, leb-true, eqb-true, eqb-false, not-false, ne
 use lib.Dec.{eqb}
 use lib.IntN.{ℤ}
 use lib.ListN.{length}
+use Rattle.std.specs.Prelude.{is_some}
 use Rattle.checker.specs.declared.Dialect.{Dialect}
 use Rattle.checker.specs.declared.Shape.{Shape}
 use Rattle.checker.specs.declared.Checked.{Checked}
@@ -16,7 +17,7 @@ use Rattle.checker.specs.Kinds.{range_of}
 use Rattle.checker.specs.Words.{word_at, root_in, nodes_in, quantifiers_in, mark}
 use Rattle.checker.specs.Search.{first, count}
 use Rattle.checker.specs.Dialect.{most_nodes, most_quantifiers, most_sets, takes_kind, takes_quantifier}
-use Rattle.checker.specs.Table.{Table, node_good, node_taken, bad_node, root_good, quantifier_taken, bad_quantifier, is_known, binds_set, one_too_many}
+use Rattle.checker.specs.Table.{Table, node_good, node_taken, bad_node, root_good, quantifier_taken, bad_quantifier, binds_set, one_too_many}
 use Rattle.checker.specs.Check.{Test, verdict, quantifier_tests, node_tests, parts_of, shape_tests, check_as, rest_of, table_at, shape_of}
 use Rattle.checker.proofs.Search.{first_none, first_all, first_le, count_mono, count_yes}
 use Rattle.checker.proofs.Sorts.{inside}
@@ -27,7 +28,7 @@ use Rattle.checker.proofs.Bools.{both}
 pub record GoodTable (d : Dialect) (t : Table) : Type 0 where
   pub few_sets : count (binds_set t) t.quantifiers ≤ most_sets d
   pub quantifier_taken_lem : (i : ℕ) → i < t.quantifiers → takes_quantifier d (t.quantifier i) ≡ true
-  pub quantifier_known : (i : ℕ) → i < t.quantifiers → is_known (range_of (t.quantifier i)) ≡ true
+  pub quantifier_known : (i : ℕ) → i < t.quantifiers → is_some (range_of (t.quantifier i)) ≡ true
   pub kind_taken : (i : ℕ) → i < t.nodes → takes_kind d (t.kind i) ≡ true
   pub node_good_lem : (i : ℕ) → i < t.nodes → node_good t i ≡ true
   pub root_good_lem : root_good t ≡ true
@@ -74,7 +75,7 @@ few limit t (suc n) h = go (binds_set t n) refl (few limit t n (λ i l. h i (ome
 good_table : (d : Dialect) (t : Table) (base width root : ℕ) → Failed (quantifier_tests d t base) → Failed (node_tests d t width root) → GoodTable d t
 unfolding quantifier_tests node_tests bad_quantifier quantifier_taken bad_node node_taken
 good_table d t base width root f g =
-    let quantifier : (i : ℕ) → i < t.quantifiers → (takes_quantifier d (t.quantifier i) ≡ true) × (is_known (range_of (t.quantifier i)) ≡ true) =
+    let quantifier : (i : ℕ) → i < t.quantifiers → (takes_quantifier d (t.quantifier i) ≡ true) × (is_some (range_of (t.quantifier i)) ≡ true) =
     λ i h. both _ _ (not-false _ (first_none (bad_quantifier d t) t.quantifiers (ltb-false _ _ f.0) i h)) in
     let node : (i : ℕ) → i < t.nodes → (takes_kind d (t.kind i) ≡ true) × (node_good t i ≡ true) =
     λ i h. both _ _ (not-false _ (first_none (bad_node d t) t.nodes (ltb-false _ _ g.0) i h)) in

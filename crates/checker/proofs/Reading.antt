@@ -8,29 +8,31 @@ use native.Mathlib.Decide.{dec_lt}
 use native.Mathlib.Omega.{arith}
 use lib.IntN.{ℤ, pos, negsuc}
 use lib.ListN.{length, get_or, drop, drop_of_length-le}
+use Rattle.std.specs.Prelude.{Option, Some, None, is_some}
 use lib.Seq.{drop-cons}
 use Rattle.checker.specs.declared.Dialect.{Dialect}
-use Rattle.checker.specs.declared.Sort.TheVariants.{AFormula, NoSort}
-use Rattle.checker.specs.declared.Need.{Need}
+use Rattle.checker.specs.declared.Sort.TheVariants.{AFormula}
+use Rattle.checker.specs.declared.Range.TheVariants.{Sets}
+use Rattle.checker.specs.declared.Row.{Row}
 use Rattle.checker.specs.Claim.{Node, unknown, Quantifier, int_q}
-use Rattle.checker.specs.Kinds.{no_number, number, row_of, sort_of, range_of, is_formula, over_sets, quantifier_of}
+use Rattle.checker.specs.Kinds.{no_number, number, row_of, sort_of, range_of, is_sort, is_range, quantifier_of}
 use Rattle.checker.specs.Words.{word, word_at, tab, root_in, nodes_in, quantifiers_in, node_at, quantifier_at, claim_of, fields_of, node_words, nodes_words, quantifier_word, mark, words_of}
 use Rattle.checker.specs.Sorts.{sort, is_set_q, Fits, AllFit, WellSorted, sets}
 use Rattle.checker.specs.Search.{count}
 use Rattle.checker.specs.Dialect.{takes_kind, takes_quantifier}
-use Rattle.checker.specs.Table.{Table, field_good, node_good, child_sort, root_good, is_known, binds_set}
+use Rattle.checker.specs.Table.{Table, field_good, obeys, node_good, child_sort, root_good, binds_set}
 use Rattle.checker.specs.Check.{table_at, kind_in, quantifier_kind}
 use Rattle.checker.specs.Accepted.{KindsTaken, QuantifiersTaken}
 use Rattle.checker.proofs.Tab.{tab-length, tab_at, tab-snoc}
 use Rattle.checker.proofs.Limits.{nodes_most, quantifiers_most, all_tab}
 use Rattle.checker.proofs.Passed.{Good}
 use Rattle.checker.proofs.Fitting.{counted}
-use Rattle.checker.proofs.Rowwise.{range, over_range, formula_is, looked, Serves, NodeIs, node_is}
+use Rattle.checker.proofs.Rowwise.{range, over_range, sort_is, looked, Obeys, NodeIs, node_is}
 use Rattle.checker.proofs.Bools.{both}
 
 -- ---- quantifiers
 
-pub range_is : (z : ℤ) → is_known (range_of (number z)) ≡ true → range_of (number z) ≡ range (is_set_q (quantifier_of z))
+pub range_is : (z : ℤ) → is_some (range_of (number z)) ≡ true → range_of (number z) ≡ Some (range (is_set_q (quantifier_of z)))
 unfolding range_of number quantifier_of
 range_is (negsuc k) h = absurd (false≢true h)
 range_is (pos zero) h = absurd (false≢true h)
@@ -42,7 +44,7 @@ range_is (pos (suc (suc (suc (suc (suc zero)))))) h = refl
 range_is (pos (suc (suc (suc (suc (suc (suc zero))))))) h = refl
 range_is (pos (suc (suc (suc (suc (suc (suc (suc k)))))))) h = absurd (false≢true h)
 
-quantifier_back : (z : ℤ) → is_known (range_of (number z)) ≡ true → quantifier_word (quantifier_of z) ≡ z
+quantifier_back : (z : ℤ) → is_some (range_of (number z)) ≡ true → quantifier_word (quantifier_of z) ≡ z
 unfolding range_of number quantifier_of
 quantifier_back (negsuc k) h = absurd (false≢true h)
 quantifier_back (pos zero) h = absurd (false≢true h)
@@ -78,22 +80,25 @@ module _ (d : Dialect) (ws : List ℤ) (good : Good d ws (nodes_in ws) (quantifi
   q_small : q < no_number
   q_small = omega (arith, good.few_quantifiers, quantifiers_most d)
 
-  known : (i : ℕ) → i < q → is_known (range_of (number (word ws (3 * n + i)))) ≡ true
+  known : (i : ℕ) → i < q → is_some (range_of (number (word ws (3 * n + i)))) ≡ true
   unfolding table_at word_at
   known i h = good.table.quantifier_known i h
 
-  range_at : (i : ℕ) → i < length qs → range_of (quantifier_kind ws n i) ≡ range (is_set_q (get_or qs i (int_q true)))
+  range_at : (i : ℕ) → i < length qs → range_of (quantifier_kind ws n i) ≡ Some (range (is_set_q (get_or qs i (int_q true))))
   unfolding word_at
   range_at i h =
       let l : i < q = omega (arith, tab-length q (quantifier_at ws n)) in
-      range_is (word ws (3 * n + i)) (known i l) ∙ ap (λ x. range (is_set_q x)) (sym (tab_at q (quantifier_at ws n) (int_q true) i l))
+      range_is (word ws (3 * n + i)) (known i l) ∙ ap (λ x. Some (range (is_set_q x))) (sym (tab_at q (quantifier_at ws n) (int_q true) i l))
 
   -- ---- nodes
 
-  served : (i : ℕ) (need : Need) (z : ℤ) → field_good (table_at ws n q) i need (number z) ≡ true
-      → Serves qs (tab i (node_at ws)) (kind_in ws) (quantifier_kind ws n) need z
-  unfolding field_good table_at
-  served i need z e = rw (tab-length i (node_at ws), tab-length q (quantifier_at ws n)) e
+  served : (i : ℕ) (row : Option Row) → obeys (table_at ws n q) i row ≡ true
+      → Obeys qs (tab i (node_at ws)) (kind_in ws) (quantifier_kind ws n) row (word ws (3 * i + 1)) (word ws (3 * i + 2))
+  unfolding field_good table_at word_at
+  served i None e = absurd (false≢true e)
+  served i (Some row) e =
+      let t : Table = table_at ws n q in
+      rw (tab-length i (node_at ws), tab-length q (quantifier_at ws n)) (both (field_good t i row.a (t.a i)) (field_good t i row.b (t.b i)) e)
 
   abbrev SortsBelow : ℕ → Type 0
   SortsBelow i = (v : ℕ) → v < i → sort (node_at ws v) ≡ sort_of (kind_in ws v)
@@ -102,13 +107,10 @@ module _ (d : Dialect) (ws : List ℤ) (good : Good d ws (nodes_in ws) (quantifi
   node_at_lem : (i : ℕ) → i < n → SortsBelow i → NodeIs qs (tab i (node_at ws)) (word ws (3 * i)) (word ws (3 * i + 1)) (word ws (3 * i + 2)) (node_at ws i)
   unfolding node_good table_at word_at
   node_at_lem i l sorts =
-      let t : Table = table_at ws n q in
-      let f = both (field_good t i (row_of (kind_in ws i)).a (number (word ws (3 * i + 1)))) (field_good t i (row_of (kind_in ws i)).b (number (word ws (3 * i + 2))))
-      (good.table.node_good_lem i l) in
       node_is qs (tab i (node_at ws)) (kind_in ws) (quantifier_kind ws n)
       (omega (arith, n_small, tab-length i (node_at ws))) (omega (arith, q_small, tab-length q (quantifier_at ws n)))
       (λ v h. let k : v < i = omega (arith, tab-length i (node_at ws)) in ap sort (tab_at i (node_at ws) unknown v k) ∙ sorts v k) range_at
-      (word ws (3 * i)) (word ws (3 * i + 1)) (word ws (3 * i + 2)) (served i _ _ f.0) (served i _ _ f.1)
+      (word ws (3 * i)) (word ws (3 * i + 1)) (word ws (3 * i + 2)) (served i (row_of (kind_in ws i)) (good.table.node_good_lem i l))
 
   sorts_upto : (i : ℕ) → i ≤ n → SortsBelow i
   unfolding word_at
@@ -131,11 +133,11 @@ module _ (d : Dialect) (ws : List ℤ) (good : Good d ws (nodes_in ws) (quantifi
         (simp (suc-add, ← add-suc) at (fit_tab m (suc i) (omega arith)))),
   )
 
-  root_good_lem : (root_in ws < n) × (sort (node_at ws (root_in ws)) ≡ AFormula)
+  root_good_lem : (root_in ws < n) × (sort (node_at ws (root_in ws)) ≡ Some AFormula)
   unfolding root_good child_sort table_at
   root_good_lem =
-      let u = looked (root_in ws) n (sort_of (kind_in ws (root_in ws))) NoSort is_formula refl good.table.root_good_lem in
-      (u.0, sorts_upto n (omega arith) (root_in ws) u.0 ∙ formula_is _ u.1)
+      let u = looked (root_in ws) n (sort_of (kind_in ws (root_in ws))) None (is_sort AFormula) refl good.table.root_good_lem in
+      (u.0, sorts_upto n (omega arith) (root_in ws) u.0 ∙ sort_is AFormula _ u.1)
 
   pub claim_sorted : WellSorted (claim_of ws)
   unfolding claim_of
@@ -215,7 +217,7 @@ module _ (d : Dialect) (ws : List ℤ) (good : Good d ws (nodes_in ws) (quantifi
   unfolding claim_of binds_set table_at
   sets_counted =
       ap (count (binds_set (table_at ws n q))) (sym (tab-length q (quantifier_at ws n)))
-      ∙ counted (binds_set (table_at ws n q)) qs (λ i h. ap over_sets (range_at i h) ∙ over_range (is_set_q (get_or qs i (int_q true))))
+      ∙ counted (binds_set (table_at ws n q)) qs (λ i h. ap (is_range Sets) (range_at i h) ∙ over_range (is_set_q (get_or qs i (int_q true))))
 
   -- ---- the kinds
 

@@ -1,5 +1,5 @@
 -- The rows of the sort table: a constant table is the list of a function's values, so that its entry at k is the function's value there; and past
--- the table nothing serves. Assumes nothing.
+-- the table there is none. Assumes nothing.
 use mathlib.Core.Path.{◌≡◌, refl, ◌∙◌, ap, sym}
 use mathlib.Core.Bool.{Bool, true, ◌&&◌}
 use mathlib.Core.List.{List, [], ◌∷◌}
@@ -9,8 +9,8 @@ use native.Mathlib.Omega.{arith}
 use borrow.Author.Tests.{ne_eqb}
 use lib.Dec.{T, ltb, ltb→lt}
 use lib.ListN.{get_or}
-use Rattle.checker.specs.declared.Need.TheVariants.{Never}
-use Rattle.checker.specs.Kinds.{Entry, needing, no_entry, entry_in, sort_table, row_of}
+use Rattle.std.specs.Prelude.{None}
+use Rattle.checker.specs.Kinds.{Entry, no_entry, entry_in, sort_table, row_of}
 use Rattle.checker.proofs.Bools.{both_told}
 
 -- f i, f (i + 1), .. : n values
@@ -38,6 +38,6 @@ past (e ∷ es) t k h =
     let b = both_told (ltb e.kind 28) (all_below es) t in
     rw (ne_eqb e.kind k (λ p. omega (arith, ltb→lt e.kind 28 b.0))) (past es b.1 k h)
 
-pub no_row : (k : ℕ) → 28 ≤ k → needing Never Never ≡ row_of k
+pub no_row : (k : ℕ) → 28 ≤ k → row_of k ≡ None
 unfolding row_of
-no_row k h = sym (ap (λ e. e.needs) (past sort_table tt k h))
+no_row k h = ap (λ e. e.needs) (past sort_table tt k h)

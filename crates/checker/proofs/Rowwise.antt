@@ -9,53 +9,67 @@ use borrow.Author.Tests.{eqb-true, lt-ltb, ltb-true}
 use lib.Dec.{eqb, ltb}
 use lib.IntN.{ℤ, pos, negsuc}
 use lib.ListN.{length, get_or}
+use Rattle.std.specs.Prelude.{Option, Some, None}
 use Rattle.checker.specs.declared.Sort.{Sort}
-use Rattle.checker.specs.declared.Sort.TheVariants.{ASet, ATerm, AFormula, NoSort}
+use Rattle.checker.specs.declared.Sort.TheVariants.{ASet, ATerm, AFormula}
 use Rattle.checker.specs.declared.Range.{Range}
-use Rattle.checker.specs.declared.Range.TheVariants.{Sets, Numbers, NoRange}
+use Rattle.checker.specs.declared.Range.TheVariants.{Sets, Numbers}
 use Rattle.checker.specs.declared.Need.{Need}
-use Rattle.checker.specs.declared.Need.TheVariants.{Unused, SetChild, TermChild, FormulaChild, SetName, NumberName}
+use Rattle.checker.specs.declared.Need.TheVariants.{Unused, Child, Name}
+use Rattle.checker.specs.declared.Row.{Row}
 use Rattle.checker.specs.Claim.{Node, set_var, empty, whole, union, inter, compl, num_var, const, maxc, sum, diff, multiple, card, equal, less, divided, set_equal, subset, conj, disj, neg, unknown, Quantifier, int_q}
-use Rattle.checker.specs.Kinds.{no_number, number, Entry, sort_table, entry_in, row_of, node_of, sort_of, range_of, is_set, is_term, is_formula, over_sets, over_numbers}
+use Rattle.checker.specs.Kinds.{no_number, number, Entry, sort_table, entry_in, row_of, node_of, sort_of, range_of, is_sort, is_range}
 use Rattle.checker.specs.Words.{fields_of, node_words}
 use Rattle.checker.specs.Sorts.{sort, Is, is_set_q, Binds, Fits}
 use Rattle.checker.specs.Table.{child_sort, name_range, serves}
 
 -- ---- sorts and ranges by their tests
 
-set_is : (s : Sort) → is_set s ≡ true → s ≡ ASet
-set_is ASet e = refl
-set_is ATerm e = absurd (false≢true e)
-set_is AFormula e = absurd (false≢true e)
-set_is NoSort e = absurd (false≢true e)
+none_is : (k : Sort) → is_sort k None ≡ false
+none_is ASet = refl
+none_is ATerm = refl
+none_is AFormula = refl
 
-term_is : (s : Sort) → is_term s ≡ true → s ≡ ATerm
-term_is ASet e = absurd (false≢true e)
-term_is ATerm e = refl
-term_is AFormula e = absurd (false≢true e)
-term_is NoSort e = absurd (false≢true e)
+pub sort_is : (k : Sort) (s : Option Sort) → is_sort k s ≡ true → s ≡ Some k
+sort_is ASet None e = absurd (false≢true e)
+sort_is ASet (Some ASet) e = refl
+sort_is ASet (Some ATerm) e = absurd (false≢true e)
+sort_is ASet (Some AFormula) e = absurd (false≢true e)
+sort_is ATerm None e = absurd (false≢true e)
+sort_is ATerm (Some ASet) e = absurd (false≢true e)
+sort_is ATerm (Some ATerm) e = refl
+sort_is ATerm (Some AFormula) e = absurd (false≢true e)
+sort_is AFormula None e = absurd (false≢true e)
+sort_is AFormula (Some ASet) e = absurd (false≢true e)
+sort_is AFormula (Some ATerm) e = absurd (false≢true e)
+sort_is AFormula (Some AFormula) e = refl
 
-pub formula_is : (s : Sort) → is_formula s ≡ true → s ≡ AFormula
-formula_is ASet e = absurd (false≢true e)
-formula_is ATerm e = absurd (false≢true e)
-formula_is AFormula e = refl
-formula_is NoSort e = absurd (false≢true e)
+is_its_sort : (k : Sort) → is_sort k (Some k) ≡ true
+is_its_sort ASet = refl
+is_its_sort ATerm = refl
+is_its_sort AFormula = refl
 
 -- what a quantifier ranges over
 abbrev pub range : Bool → Range
 range sets = cond sets Sets Numbers
 
-pub over_range : (b : Bool) → over_sets (range b) ≡ b
+pub over_range : (b : Bool) → is_range Sets (Some (range b)) ≡ b
 over_range true = refl
 over_range false = refl
 
-sets_are : (b : Bool) → over_sets (range b) ≡ true → b ≡ true
-sets_are true e = refl
-sets_are false e = absurd (false≢true e)
+no_range_is : (b : Bool) → is_range (range b) None ≡ false
+no_range_is true = refl
+no_range_is false = refl
 
-numbers_are : (b : Bool) → over_numbers (range b) ≡ true → b ≡ false
-numbers_are true e = absurd (false≢true e)
-numbers_are false e = refl
+same_range : (a b : Bool) → is_range (range a) (Some (range b)) ≡ true → b ≡ a
+same_range true true e = refl
+same_range true false e = absurd (false≢true e)
+same_range false true e = absurd (false≢true e)
+same_range false false e = refl
+
+is_its_range : (b : Bool) → is_range (range b) (Some (range b)) ≡ true
+is_its_range true = refl
+is_its_range false = refl
 
 -- a word that is below a limit is a number
 pub below : (z : ℤ) (n : ℕ) → n ≤ no_number → number z < n → z ≡ pos (number z)
@@ -88,9 +102,13 @@ module _ (qs : List Quantifier) (done : List Node) (kind quantifier : ℕ → �
   Serves need z =
       serves need (number z) (child_sort kind (length done) (number z)) (name_range quantifier (length qs) (number z)) ≡ true
 
+  abbrev pub Obeys : Option Row → ℤ → ℤ → Type 0
+  Obeys None x y = ⊥
+  Obeys (Some row) x y = Serves row.a x × Serves row.b y
+
   module _ (small : length done ≤ no_number) (few : length qs ≤ no_number)
       (sorts : (v : ℕ) → v < length done → sort (get_or done v unknown) ≡ sort_of (kind v))
-      (binds : (v : ℕ) → v < length qs → range_of (quantifier v) ≡ range (is_set_q (get_or qs v (int_q true)))) where
+      (binds : (v : ℕ) → v < length qs → range_of (quantifier v) ≡ Some (range (is_set_q (get_or qs v (int_q true))))) where
     -- ---- from words to the node
 
     unused : (z : ℤ) → Serves Unused z → z ≡ pos 0
@@ -98,52 +116,34 @@ module _ (qs : List Quantifier) (done : List Node) (kind quantifier : ℕ → �
     unused (pos v) e = ap pos (eqb-true v 0 e)
     unused (negsuc v) e = absurd (false≢true e)
 
-    record Child (s : Sort) (z : ℤ) : Type 0 where
+    record ChildIs (s : Sort) (z : ℤ) : Type 0 where
       at : ℕ
       is : z ≡ pos at
       node : Is s done at
 
-    record Name (b : Bool) (z : ℤ) : Type 0 where
+    record NameIs (b : Bool) (z : ℤ) : Type 0 where
       at : ℕ
       is : z ≡ pos at
       quantifier_is : Binds b qs at
 
-    child : (s : Sort) (p : Sort → Bool) → p NoSort ≡ false → ((t : Sort) → p t ≡ true → t ≡ s)
-        → (z : ℤ) → p (child_sort kind (length done) (number z)) ≡ true → Child s z
-    unfolding child_sort
-    child s p none is z e =
-        let u = looked (number z) (length done) (sort_of (kind (number z))) NoSort p none e in
-        record { at = number z; is = below z (length done) small u.0; node = (u.0, sorts (number z) u.0 ∙ is _ u.1) }
+    child : (s : Sort) (z : ℤ) → Serves (Child s) z → ChildIs s z
+    unfolding serves child_sort
+    child s z e =
+        let u = looked (number z) (length done) (sort_of (kind (number z))) None (is_sort s) (none_is s) e in
+        record { at = number z; is = below z (length done) small u.0; node = (u.0, sorts (number z) u.0 ∙ sort_is s _ u.1) }
 
-    a_set : (z : ℤ) → Serves SetChild z → Child ASet z
-    unfolding serves
-    a_set z e = child ASet is_set refl set_is z e
-
-    a_term : (z : ℤ) → Serves TermChild z → Child ATerm z
-    unfolding serves
-    a_term z e = child ATerm is_term refl term_is z e
-
-    a_formula : (z : ℤ) → Serves FormulaChild z → Child AFormula z
-    unfolding serves
-    a_formula z e = child AFormula is_formula refl formula_is z e
-
-    name : (b : Bool) (p : Range → Bool) → p NoRange ≡ false → ((s : Bool) → p (range s) ≡ true → s ≡ b)
-        → (z : ℤ) → p (name_range quantifier (length qs) (number z)) ≡ true → Name b z
-    unfolding name_range
-    name b p none is z e =
-        let u = looked (number z) (length qs) (range_of (quantifier (number z))) NoRange p none e in
-        record { at = number z; is = below z (length qs) few u.0; quantifier_is = (u.0, is _ (ap p (sym (binds (number z) u.0)) ∙ u.1)) }
-
-    a_set_name : (z : ℤ) → Serves SetName z → Name true z
-    unfolding serves
-    a_set_name z e = name true over_sets refl sets_are z e
-
-    a_number_name : (z : ℤ) → Serves NumberName z → Name false z
-    unfolding serves
-    a_number_name z e = name false over_numbers refl numbers_are z e
+    name : (b : Bool) (z : ℤ) → Serves (Name (range b)) z → NameIs b z
+    unfolding serves name_range
+    name b z e =
+        let u = looked (number z) (length qs) (range_of (quantifier (number z))) None (is_range (range b)) (no_range_is b) e in
+        record {
+          at = number z;
+          is = below z (length qs) few u.0;
+          quantifier_is = (u.0, same_range b _ (ap (is_range (range b)) (sym (binds (number z) u.0)) ∙ u.1));
+        }
 
     abbrev Good : Entry → Type 0
-    Good e = (x y : ℤ) → Serves e.needs.a x → Serves e.needs.b y → NodeIs qs done (pos e.kind) x y (e.node x y)
+    Good e = (x y : ℤ) → Obeys e.needs x y → NodeIs qs done (pos e.kind) x y (e.node x y)
 
     abbrev AllGood : List Entry → Type 0
     AllGood [] = Unit {0}
@@ -152,80 +152,79 @@ module _ (qs : List Quantifier) (done : List Node) (kind quantifier : ℕ → �
     rows_good : AllGood sort_table
     unfolding node_words sort_of number
     rows_good =
-        (λ x y a b. let m = a_set_name x a in rw (m.is, unused y b) (record { words = refl; sort_is = refl; fits = m.quantifier_is }))
-        ▸ (λ x y a b. rw (unused x a, unused y b) (record { words = refl; sort_is = refl; fits = tt }))
-        ▸ (λ x y a b. rw (unused x a, unused y b) (record { words = refl; sort_is = refl; fits = tt }))
-        ▸ (λ x y a b. let m = a_set x a in let n = a_set y b in rw (m.is, n.is) (record { words = refl; sort_is = refl; fits = (m.node, n.node) }))
-        ▸ (λ x y a b. let m = a_set x a in let n = a_set y b in rw (m.is, n.is) (record { words = refl; sort_is = refl; fits = (m.node, n.node) }))
-        ▸ (λ x y a b. let m = a_set x a in rw (m.is, unused y b) (record { words = refl; sort_is = refl; fits = m.node }))
-        ▸ (λ x y a b. let m = a_number_name x a in rw (m.is, unused y b) (record { words = refl; sort_is = refl; fits = m.quantifier_is }))
-        ▸ (λ x y a b. rw (unused y b) (record { words = refl; sort_is = refl; fits = tt }))
-        ▸ (λ x y a b. rw (unused x a, unused y b) (record { words = refl; sort_is = refl; fits = tt }))
-        ▸ (λ x y a b. let m = a_term x a in let n = a_term y b in rw (m.is, n.is) (record { words = refl; sort_is = refl; fits = (m.node, n.node) }))
-        ▸ (λ x y a b. let m = a_term x a in let n = a_term y b in rw (m.is, n.is) (record { words = refl; sort_is = refl; fits = (m.node, n.node) }))
-        ▸ (λ x y a b. let n = a_term y b in rw n.is (record { words = refl; sort_is = refl; fits = n.node }))
-        ▸ (λ x y a b. let m = a_set x a in rw (m.is, unused y b) (record { words = refl; sort_is = refl; fits = m.node }))
-        ▸ (λ x y a b. let m = a_term x a in let n = a_term y b in rw (m.is, n.is) (record { words = refl; sort_is = refl; fits = (m.node, n.node) }))
-        ▸ (λ x y a b. let m = a_term x a in let n = a_term y b in rw (m.is, n.is) (record { words = refl; sort_is = refl; fits = (m.node, n.node) }))
-        ▸ (λ x y a b. let n = a_term y b in rw n.is (record { words = refl; sort_is = refl; fits = n.node }))
-        ▸ (λ x y a b. let m = a_set x a in let n = a_set y b in rw (m.is, n.is) (record { words = refl; sort_is = refl; fits = (m.node, n.node) }))
-        ▸ (λ x y a b. let m = a_set x a in let n = a_set y b in rw (m.is, n.is) (record { words = refl; sort_is = refl; fits = (m.node, n.node) }))
-        ▸ (λ x y a b. let m = a_formula x a in let n = a_formula y b in rw (m.is, n.is) (record { words = refl; sort_is = refl; fits = (m.node, n.node) }))
-        ▸ (λ x y a b. let m = a_formula x a in let n = a_formula y b in rw (m.is, n.is) (record { words = refl; sort_is = refl; fits = (m.node, n.node) }))
-        ▸ (λ x y a b. let m = a_formula x a in rw (m.is, unused y b) (record { words = refl; sort_is = refl; fits = m.node }))
+        (λ x y (a, b). let m = name true x a in rw (m.is, unused y b) (record { words = refl; sort_is = refl; fits = m.quantifier_is }))
+        ▸ (λ x y (a, b). rw (unused x a, unused y b) (record { words = refl; sort_is = refl; fits = tt }))
+        ▸ (λ x y (a, b). rw (unused x a, unused y b) (record { words = refl; sort_is = refl; fits = tt }))
+        ▸ (λ x y (a, b). let m = child ASet x a in let n = child ASet y b in rw (m.is, n.is) (record { words = refl; sort_is = refl; fits = (m.node, n.node) }))
+        ▸ (λ x y (a, b). let m = child ASet x a in let n = child ASet y b in rw (m.is, n.is) (record { words = refl; sort_is = refl; fits = (m.node, n.node) }))
+        ▸ (λ x y (a, b). let m = child ASet x a in rw (m.is, unused y b) (record { words = refl; sort_is = refl; fits = m.node }))
+        ▸ (λ x y (a, b). let m = name false x a in rw (m.is, unused y b) (record { words = refl; sort_is = refl; fits = m.quantifier_is }))
+        ▸ (λ x y (a, b). rw (unused y b) (record { words = refl; sort_is = refl; fits = tt }))
+        ▸ (λ x y (a, b). rw (unused x a, unused y b) (record { words = refl; sort_is = refl; fits = tt }))
+        ▸ (λ x y (a, b). let m = child ATerm x a in let n = child ATerm y b in rw (m.is, n.is) (record { words = refl; sort_is = refl; fits = (m.node, n.node) }))
+        ▸ (λ x y (a, b). let m = child ATerm x a in let n = child ATerm y b in rw (m.is, n.is) (record { words = refl; sort_is = refl; fits = (m.node, n.node) }))
+        ▸ (λ x y (a, b). let n = child ATerm y b in rw n.is (record { words = refl; sort_is = refl; fits = n.node }))
+        ▸ (λ x y (a, b). let m = child ASet x a in rw (m.is, unused y b) (record { words = refl; sort_is = refl; fits = m.node }))
+        ▸ (λ x y (a, b). let m = child ATerm x a in let n = child ATerm y b in rw (m.is, n.is) (record { words = refl; sort_is = refl; fits = (m.node, n.node) }))
+        ▸ (λ x y (a, b). let m = child ATerm x a in let n = child ATerm y b in rw (m.is, n.is) (record { words = refl; sort_is = refl; fits = (m.node, n.node) }))
+        ▸ (λ x y (a, b). let n = child ATerm y b in rw n.is (record { words = refl; sort_is = refl; fits = n.node }))
+        ▸ (λ x y (a, b). let m = child ASet x a in let n = child ASet y b in rw (m.is, n.is) (record { words = refl; sort_is = refl; fits = (m.node, n.node) }))
+        ▸ (λ x y (a, b). let m = child ASet x a in let n = child ASet y b in rw (m.is, n.is) (record { words = refl; sort_is = refl; fits = (m.node, n.node) }))
+        ▸ (λ x y (a, b). let m = child AFormula x a in let n = child AFormula y b in rw (m.is, n.is) (record { words = refl; sort_is = refl; fits = (m.node, n.node) }))
+        ▸ (λ x y (a, b). let m = child AFormula x a in let n = child AFormula y b in rw (m.is, n.is) (record { words = refl; sort_is = refl; fits = (m.node, n.node) }))
+        ▸ (λ x y (a, b). let m = child AFormula x a in rw (m.is, unused y b) (record { words = refl; sort_is = refl; fits = m.node }))
         ▸ tt
 
-    entry_good : (es : List Entry) → AllGood es → (k : ℕ) (x y : ℤ) → Serves (entry_in es k).needs.a x → Serves (entry_in es k).needs.b y
-        → NodeIs qs done (pos k) x y ((entry_in es k).node x y)
-    unfolding serves
-    entry_good [] g k x y a b = absurd (false≢true a)
-    entry_good (e ∷ es) (g, gs) k x y a b = go (eqb e.kind k) refl a b (entry_good es gs k x y)
+    entry_good : (es : List Entry) → AllGood es → (k : ℕ) (x y : ℤ) → Obeys (entry_in es k).needs x y → NodeIs qs done (pos k) x y ((entry_in es k).node x y)
+    entry_good [] g k x y o = absurd o
+    entry_good (e ∷ es) (g, gs) k x y o = go (eqb e.kind k) refl o (entry_good es gs k x y)
       where
-        go : (t : Bool) → eqb e.kind k ≡ t → Serves (cond t e (entry_in es k)).needs.a x → Serves (cond t e (entry_in es k)).needs.b y
-            → (Serves (entry_in es k).needs.a x → Serves (entry_in es k).needs.b y → NodeIs qs done (pos k) x y ((entry_in es k).node x y))
+        go : (t : Bool) → eqb e.kind k ≡ t → Obeys (cond t e (entry_in es k)).needs x y
+            → (Obeys (entry_in es k).needs x y → NodeIs qs done (pos k) x y ((entry_in es k).node x y))
             → NodeIs qs done (pos k) x y ((cond t e (entry_in es k)).node x y)
-        go true p a b r = subst (λ j. NodeIs qs done (pos j) x y (e.node x y)) (eqb-true e.kind k p) (g x y a b)
-        go false p a b r = r a b
+        go true p o r = subst (λ j. NodeIs qs done (pos j) x y (e.node x y)) (eqb-true e.kind k p) (g x y o)
+        go false p o r = r o
 
-    pub node_is : (z x y : ℤ) → Serves (row_of (number z)).a x → Serves (row_of (number z)).b y → NodeIs qs done z x y (node_of z x y)
-    unfolding row_of node_of number serves
-    node_is (pos k) x y a b = entry_good sort_table rows_good k x y a b
-    node_is (negsuc k) x y a b = absurd (false≢true a)
+    pub node_is : (z x y : ℤ) → Obeys (row_of (number z)) x y → NodeIs qs done z x y (node_of z x y)
+    unfolding row_of node_of number
+    node_is (pos k) x y o = entry_good sort_table rows_good k x y o
+    node_is (negsuc k) x y o = absurd o
 
     -- ---- from the node to its words
 
-    served_child : (s : Sort) (p : Sort → Bool) → p s ≡ true → (v : ℕ) → Is s done v → p (child_sort kind (length done) v) ≡ true
+    served_child : (s : Sort) (v : ℕ) → Is s done v → is_sort s (child_sort kind (length done) v) ≡ true
     unfolding child_sort
-    served_child s p right v (h, e) = rw (lt-ltb v (length done) h) (ap p (sym (sorts v h) ∙ e) ∙ right)
+    served_child s v (h, e) = rw (lt-ltb v (length done) h) (ap (is_sort s) (sym (sorts v h) ∙ e) ∙ is_its_sort s)
 
-    served_name : (b : Bool) (p : Range → Bool) → p (range b) ≡ true → (v : ℕ) → Binds b qs v → p (name_range quantifier (length qs) v) ≡ true
+    served_name : (b : Bool) (v : ℕ) → Binds b qs v → is_range (range b) (name_range quantifier (length qs) v) ≡ true
     unfolding name_range
-    served_name b p right v (h, e) = rw (lt-ltb v (length qs) h) (ap p (binds v h ∙ ap range e) ∙ right)
+    served_name b v (h, e) =
+        rw (lt-ltb v (length qs) h) (ap (is_range (range b)) (binds v h ∙ ap (λ c. Some (range c)) e) ∙ is_its_range b)
 
     abbrev Served : Node → Type 0
-    Served n = Serves (row_of (fields_of n).kind).a (fields_of n).a × Serves (row_of (fields_of n).kind).b (fields_of n).b
+    Served n = Obeys (row_of (fields_of n).kind) (fields_of n).a (fields_of n).b
 
     pub fits_served : (n : Node) → Fits qs done n → Served n
     unfolding row_of serves number
-    fits_served (set_var q) f = (served_name true over_sets refl q f, refl)
+    fits_served (set_var q) f = (served_name true q f, refl)
     fits_served empty f = (refl, refl)
     fits_served whole f = (refl, refl)
-    fits_served (union a b) (f, g) = (served_child ASet is_set refl a f, served_child ASet is_set refl b g)
-    fits_served (inter a b) (f, g) = (served_child ASet is_set refl a f, served_child ASet is_set refl b g)
-    fits_served (compl a) f = (served_child ASet is_set refl a f, refl)
-    fits_served (num_var q) f = (served_name false over_numbers refl q f, refl)
+    fits_served (union a b) (f, g) = (served_child ASet a f, served_child ASet b g)
+    fits_served (inter a b) (f, g) = (served_child ASet a f, served_child ASet b g)
+    fits_served (compl a) f = (served_child ASet a f, refl)
+    fits_served (num_var q) f = (served_name false q f, refl)
     fits_served (const c) f = (refl, refl)
     fits_served maxc f = (refl, refl)
-    fits_served (sum a b) (f, g) = (served_child ATerm is_term refl a f, served_child ATerm is_term refl b g)
-    fits_served (diff a b) (f, g) = (served_child ATerm is_term refl a f, served_child ATerm is_term refl b g)
-    fits_served (multiple c b) f = (refl, served_child ATerm is_term refl b f)
-    fits_served (card a) f = (served_child ASet is_set refl a f, refl)
-    fits_served (equal a b) (f, g) = (served_child ATerm is_term refl a f, served_child ATerm is_term refl b g)
-    fits_served (less a b) (f, g) = (served_child ATerm is_term refl a f, served_child ATerm is_term refl b g)
-    fits_served (divided c b) f = (refl, served_child ATerm is_term refl b f)
-    fits_served (set_equal a b) (f, g) = (served_child ASet is_set refl a f, served_child ASet is_set refl b g)
-    fits_served (subset a b) (f, g) = (served_child ASet is_set refl a f, served_child ASet is_set refl b g)
-    fits_served (conj a b) (f, g) = (served_child AFormula is_formula refl a f, served_child AFormula is_formula refl b g)
-    fits_served (disj a b) (f, g) = (served_child AFormula is_formula refl a f, served_child AFormula is_formula refl b g)
-    fits_served (neg a) f = (served_child AFormula is_formula refl a f, refl)
+    fits_served (sum a b) (f, g) = (served_child ATerm a f, served_child ATerm b g)
+    fits_served (diff a b) (f, g) = (served_child ATerm a f, served_child ATerm b g)
+    fits_served (multiple c b) f = (refl, served_child ATerm b f)
+    fits_served (card a) f = (served_child ASet a f, refl)
+    fits_served (equal a b) (f, g) = (served_child ATerm a f, served_child ATerm b g)
+    fits_served (less a b) (f, g) = (served_child ATerm a f, served_child ATerm b g)
+    fits_served (divided c b) f = (refl, served_child ATerm b f)
+    fits_served (set_equal a b) (f, g) = (served_child ASet a f, served_child ASet b g)
+    fits_served (subset a b) (f, g) = (served_child ASet a f, served_child ASet b g)
+    fits_served (conj a b) (f, g) = (served_child AFormula a f, served_child AFormula b g)
+    fits_served (disj a b) (f, g) = (served_child AFormula a f, served_child AFormula b g)
+    fits_served (neg a) f = (served_child AFormula a f, refl)
     fits_served unknown f = absurd f

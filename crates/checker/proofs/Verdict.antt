@@ -1,7 +1,7 @@
 -- The tests in their order: what `parts_of` and `check_as` are once the tests before have failed. The code's values stand beside the definition's,
 -- with an equation for each, so that a way out is one law. Assumes nothing.
 use mathlib.Core.Path.{◌≡◌}
-use mathlib.Core.Bool.{Bool, true, false}
+use mathlib.Core.Bool.{true, false}
 use mathlib.Core.List.{List}
 use Prim.Native.Nat.{ℕ, ◌+◌, ◌*◌, ◌-◌, ◌≤◌, ◌<◌}
 use native.Mathlib.Omega.{arith}
@@ -11,21 +11,15 @@ use lib.IntN.{ℤ}
 use lib.ListN.{length}
 use Rattle.checker.specs.declared.Dialect.{Dialect}
 use Rattle.checker.specs.declared.Dialect.TheVariants.{SetClaims}
-use Rattle.checker.specs.declared.Sort.{Sort}
 use Rattle.checker.specs.declared.Checked.{Checked}
 use Rattle.checker.specs.declared.Checked.TheVariants.{Accepted, Refused}
 use Rattle.checker.specs.Search.{first, count}
-use Rattle.checker.specs.Kinds.{within, is_formula}
+use Rattle.checker.specs.Kinds.{within}
 use Rattle.checker.specs.Words.{word_at, nodes_in, quantifiers_in, mark}
 use Rattle.checker.specs.Dialect.{most_nodes, most_quantifiers, most_sets}
-use Rattle.checker.specs.Table.{Table, child_sort, bad_node, root_good, bad_quantifier, binds_set, one_too_many}
+use Rattle.checker.specs.Table.{Table, bad_node, root_good, bad_quantifier, binds_set, one_too_many}
 use Rattle.checker.specs.Check.{Test, verdict, refusal, node_refusal, quantifier_tests, node_tests, parts_of, shape_tests, shape_of, rest_of}
 use Rattle.checker.proofs.Search.{first_le}
-
--- the root's sort, as the code finds it
-pub root_is : (t : Table) {v : ℕ} {s : Sort} {f b : Bool} → v ≡ t.root → s ≡ child_sort t.kind t.nodes v → f ≡ is_formula s → f ≡ b
-    → is_formula (child_sort t.kind t.nodes t.root) ≡ b
-root_is t p q r e = rw (← p, ← q, ← r) e
 
 -- ---- refusals 4 to 7
 
@@ -50,12 +44,12 @@ module _ (d : Dialect) (t : Table) (base width root : ℕ) (extra : List Test) (
       at_6 h = rw (← e4, ← e5, le-ltb _ _ n4, le-ltb _ _ n5, clear _, ← e6, lt-ltb _ _ h)
 
       module _ (n6 : t.nodes ≤ broken) where
-        pub at_7 : is_formula (child_sort t.kind t.nodes t.root) ≡ false → Refused (refusal 7 root) ≡ parts_of d t base width root extra
-        unfolding parts_of verdict quantifier_tests node_tests root_good
+        pub at_7 : root_good t ≡ false → Refused (refusal 7 root) ≡ parts_of d t base width root extra
+        unfolding parts_of verdict quantifier_tests node_tests
         at_7 h = rw (← e4, ← e5, le-ltb _ _ n4, le-ltb _ _ n5, clear _, ← e6, le-ltb _ _ n6, h)
 
-        pub all_pass_lem : is_formula (child_sort t.kind t.nodes t.root) ≡ true → (sets top : ℕ) → sets ≡ count (binds_set t) over → top ≡ t.root → Accepted (record { nodes = t.nodes; quantifiers = t.quantifiers; sets = sets; root = top }) ≡ parts_of d t base width root extra
-        unfolding parts_of verdict quantifier_tests node_tests root_good shape_of
+        pub all_pass_lem : root_good t ≡ true → (sets top : ℕ) → sets ≡ count (binds_set t) over → top ≡ t.root → Accepted (record { nodes = t.nodes; quantifiers = t.quantifiers; sets = sets; root = top }) ≡ parts_of d t base width root extra
+        unfolding parts_of verdict quantifier_tests node_tests shape_of
         all_pass_lem h sets top s r =
             let o : over ≡ t.quantifiers = omega (arith, first_le (one_too_many (most_sets d) t) t.quantifiers) in
             rw (← e4, ← e5, le-ltb _ _ n4, le-ltb _ _ n5, clear _, ← e6, le-ltb _ _ n6, h, s, o, r)

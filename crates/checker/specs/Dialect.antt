@@ -4,7 +4,8 @@
 use Rattle.std.specs.Prelude.{Bool, true, ◌||◌, ℕ}
 use Rattle.checker.specs.declared.Dialect.{Dialect}
 use Rattle.checker.specs.declared.Dialect.TheVariants.{SetClaims, Emitted}
-use Rattle.checker.specs.Kinds.{within, range_of, over_numbers}
+use Rattle.checker.specs.declared.Range.TheVariants.{Numbers}
+use Rattle.checker.specs.Kinds.{within, range_of, is_range}
 
 -- ---- limits: those of claims over sets, and what 01's bound on an emission's size comes to at them
 
@@ -32,4 +33,4 @@ takes_kind Emitted kind = speaks_of_numbers kind
 
 abbrev pub takes_quantifier : Dialect → ℕ → Bool
 takes_quantifier SetClaims kind = true
-takes_quantifier Emitted kind = over_numbers (range_of kind)
+takes_quantifier Emitted kind = is_range Numbers (range_of kind)

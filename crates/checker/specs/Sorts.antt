@@ -1,37 +1,37 @@
 -- Well-sorted claims (01, the sort table): children are earlier nodes of the right sort, quantifiers are of the right kind, the root is a formula.
 -- Assumes nothing.
-use Rattle.std.specs.Prelude.{◌≡◌, Bool, true, false, List, [], ◌∷◌, ◌++◌, ℕ, suc, ◌<◌, length, get_or}
+use Rattle.std.specs.Prelude.{◌≡◌, Bool, true, false, List, [], ◌∷◌, ◌++◌, ℕ, suc, ◌<◌, length, get_or, Option, Some, None}
 use Rattle.checker.specs.declared.Sort.{Sort}
-use Rattle.checker.specs.declared.Sort.TheVariants.{ASet, ATerm, AFormula, NoSort}
+use Rattle.checker.specs.declared.Sort.TheVariants.{ASet, ATerm, AFormula}
 use Rattle.checker.specs.Claim.{Node, set_var, empty, whole, union, inter, compl, num_var, const, maxc, sum, diff, multiple, card, equal, less, divided, set_equal, subset, conj, disj, neg, unknown, Quantifier, int_q, set_q, count_q, Claim}
 
-abbrev pub sort : Node → Sort
-sort (set_var q) = ASet
-sort empty = ASet
-sort whole = ASet
-sort (union a b) = ASet
-sort (inter a b) = ASet
-sort (compl a) = ASet
-sort (num_var q) = ATerm
-sort (const c) = ATerm
-sort maxc = ATerm
-sort (sum a b) = ATerm
-sort (diff a b) = ATerm
-sort (multiple c b) = ATerm
-sort (card a) = ATerm
-sort (equal a b) = AFormula
-sort (less a b) = AFormula
-sort (divided c b) = AFormula
-sort (set_equal a b) = AFormula
-sort (subset a b) = AFormula
-sort (conj a b) = AFormula
-sort (disj a b) = AFormula
-sort (neg a) = AFormula
-sort unknown = NoSort
+abbrev pub sort : Node → Option Sort
+sort (set_var q) = Some ASet
+sort empty = Some ASet
+sort whole = Some ASet
+sort (union a b) = Some ASet
+sort (inter a b) = Some ASet
+sort (compl a) = Some ASet
+sort (num_var q) = Some ATerm
+sort (const c) = Some ATerm
+sort maxc = Some ATerm
+sort (sum a b) = Some ATerm
+sort (diff a b) = Some ATerm
+sort (multiple c b) = Some ATerm
+sort (card a) = Some ATerm
+sort (equal a b) = Some AFormula
+sort (less a b) = Some AFormula
+sort (divided c b) = Some AFormula
+sort (set_equal a b) = Some AFormula
+sort (subset a b) = Some AFormula
+sort (conj a b) = Some AFormula
+sort (disj a b) = Some AFormula
+sort (neg a) = Some AFormula
+sort unknown = None
 
 -- a is the number of one of the nodes, and that is of the sort s
 abbrev pub Is : Sort → List Node → ℕ → Type 0
-Is s nodes a = (a < length nodes) × (sort (get_or nodes a unknown) ≡ s)
+Is s nodes a = (a < length nodes) × (sort (get_or nodes a unknown) ≡ Some s)
 
 abbrev pub is_set_q : Quantifier → Bool
 is_set_q (int_q some) = false

@@ -2,10 +2,10 @@
 ghost use Rattle.std.specs.Prelude.{◌≡◌};
 ghost use Rattle.checker.specs.Dialect.{most_nodes, most_quantifiers, most_sets, speaks_of_numbers, takes_kind, takes_quantifier};
 
-use crate::Dialect;
 use crate::names::{
     MAX_EMITTED_NODES, MAX_EMITTED_QUANTIFIERS, MAX_NODES, MAX_QUANTIFIERS, MAX_SETS,
 };
+use crate::{Dialect, Range};
 
 pub fn most_nodes(dialect: Dialect) -> usize
     ensures { result ≡ most_nodes dialect }
@@ -37,12 +37,7 @@ pub fn most_sets(dialect: Dialect) -> usize
 fn speaks_of_numbers(kind: usize) -> bool
     ensures { result ≡ speaks_of_numbers kind }
 {
-    match kind {
-        10..=15 => true,
-        20..=22 => true,
-        25..=27 => true,
-        _ => false,
-    }
+    matches!(kind, 10..=15 | 20..=22 | 25..=27)
 }
 
 pub fn takes_kind(dialect: Dialect, kind: usize) -> bool
@@ -59,6 +54,6 @@ pub fn takes_quantifier(dialect: Dialect, kind: usize) -> bool
 {
     match dialect {
         Dialect::SetClaims => true,
-        Dialect::Emitted => crate::nodes::over_numbers(crate::kinds::range_of(kind)),
+        Dialect::Emitted => crate::kinds::range_of(kind) == Some(Range::Numbers),
     }
 }

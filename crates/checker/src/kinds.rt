@@ -4,105 +4,99 @@ ghost use Rattle.checker.specs.Kinds.{sort_of, range_of, row_of};
 
 use crate::{Need, Range, Row, Sort};
 
-pub fn sort_of(kind: usize) -> Sort
+#[tactic(auto, unfolding(crate::specs::Kinds::sort_of))]
+pub fn sort_of(kind: usize) -> Option<Sort>
     ensures { result ≡ sort_of kind }
 {
     match kind {
-        1..=6 => Sort::ASet,
-        10..=16 => Sort::ATerm,
-        20..=27 => Sort::AFormula,
-        _ => Sort::NoSort,
+        1..=6 => Some(Sort::ASet),
+        10..=16 => Some(Sort::ATerm),
+        20..=27 => Some(Sort::AFormula),
+        _ => None,
     }
 }
 
 // By their kinds from 0, of which there is none.
-const RANGES: [Range; 7] = [
-    Range::NoRange,
-    Range::Numbers,
-    Range::Numbers,
-    Range::Sets,
-    Range::Sets,
-    Range::Numbers,
-    Range::Numbers,
+const RANGES: [Option<Range>; 7] = [
+    None,
+    Some(Range::Numbers),
+    Some(Range::Numbers),
+    Some(Range::Sets),
+    Some(Range::Sets),
+    Some(Range::Numbers),
+    Some(Range::Numbers),
 ];
 
-pub fn range_of(kind: usize) -> Range
+#[tactic(auto, unfolding(crate::specs::Kinds::range_of))]
+pub fn range_of(kind: usize) -> Option<Range>
     ensures { result ≡ range_of kind }
 {
-    if kind < 7 {
-        return RANGES[kind];
-    }
-    Range::NoRange
+    *RANGES.get(kind)?
 }
 
 // What the rows of the table require in a and in b.
-const NO_ROW: Row = Row {
-    a: Need::Never,
-    b: Need::Never,
-};
-
-const LEAF: Row = Row {
+const LEAF: Option<Row> = Some(Row {
     a: Need::Unused,
     b: Need::Unused,
-};
+});
 
-const SET_NAME: Row = Row {
-    a: Need::SetName,
+const SET_NAME: Option<Row> = Some(Row {
+    a: Need::Name(Range::Sets),
     b: Need::Unused,
-};
+});
 
-const NUMBER_NAME: Row = Row {
-    a: Need::NumberName,
+const NUMBER_NAME: Option<Row> = Some(Row {
+    a: Need::Name(Range::Numbers),
     b: Need::Unused,
-};
+});
 
-const WORD: Row = Row {
+const WORD: Option<Row> = Some(Row {
     a: Need::Word,
     b: Need::Unused,
-};
+});
 
-const SET: Row = Row {
-    a: Need::SetChild,
+const SET: Option<Row> = Some(Row {
+    a: Need::Child(Sort::ASet),
     b: Need::Unused,
-};
+});
 
-const TWO_SETS: Row = Row {
-    a: Need::SetChild,
-    b: Need::SetChild,
-};
+const TWO_SETS: Option<Row> = Some(Row {
+    a: Need::Child(Sort::ASet),
+    b: Need::Child(Sort::ASet),
+});
 
-const TWO_TERMS: Row = Row {
-    a: Need::TermChild,
-    b: Need::TermChild,
-};
+const TWO_TERMS: Option<Row> = Some(Row {
+    a: Need::Child(Sort::ATerm),
+    b: Need::Child(Sort::ATerm),
+});
 
-const WORD_TERM: Row = Row {
+const WORD_TERM: Option<Row> = Some(Row {
     a: Need::Word,
-    b: Need::TermChild,
-};
+    b: Need::Child(Sort::ATerm),
+});
 
-const FORMULA: Row = Row {
-    a: Need::FormulaChild,
+const FORMULA: Option<Row> = Some(Row {
+    a: Need::Child(Sort::AFormula),
     b: Need::Unused,
-};
+});
 
-const TWO_FORMULAS: Row = Row {
-    a: Need::FormulaChild,
-    b: Need::FormulaChild,
-};
+const TWO_FORMULAS: Option<Row> = Some(Row {
+    a: Need::Child(Sort::AFormula),
+    b: Need::Child(Sort::AFormula),
+});
 
 // The sort table, one row per kind.
-const ROWS: [Row; 28] = [
-    NO_ROW, // 0
+const ROWS: [Option<Row>; 28] = [
+    None, // 0
     SET_NAME, // 1: set variable
     LEAF, // 2: empty set
     LEAF, // 3: whole set
     TWO_SETS, // 4: union
     TWO_SETS, // 5: intersection
     SET, // 6: complement
-    NO_ROW, // 7
-    NO_ROW, // 8
-    NO_ROW, // 9
+    None, // 7
+    None, // 8
+    None, // 9
     NUMBER_NAME, // 10: number variable
     WORD, // 11: constant
     LEAF, // 12: MAXC
@@ -110,9 +104,9 @@ const ROWS: [Row; 28] = [
     TWO_TERMS, // 14: difference
     WORD_TERM, // 15: multiple
     SET, // 16: cardinality
-    NO_ROW, // 17
-    NO_ROW, // 18
-    NO_ROW, // 19
+    None, // 17
+    None, // 18
+    None, // 19
     TWO_TERMS, // 20: equal
     TWO_TERMS, // 21: less
     WORD_TERM, // 22: C divides T
@@ -123,11 +117,8 @@ const ROWS: [Row; 28] = [
     FORMULA, // 27: not
 ];
 
-pub fn row_of(kind: usize) -> Row
+pub fn row_of(kind: usize) -> Option<Row>
     ensures { result ≡ row_of kind }
 {
-    if kind < 28 {
-        return ROWS[kind];
-    }
-    NO_ROW
+    *ROWS.get(kind)?
 }

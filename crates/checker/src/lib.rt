@@ -46,33 +46,27 @@ pub enum Checked {
 }
 
 // What a node is.
-#[derive(Clone, Copy)]
+#[derive(Clone, Copy, PartialEq, Eq)]
 pub enum Sort {
     ASet,
     ATerm,
     AFormula,
-    NoSort,
 }
 
 // What a quantifier ranges over.
-#[derive(Clone, Copy)]
+#[derive(Clone, Copy, PartialEq, Eq)]
 pub enum Range {
     Sets,
     Numbers,
-    NoRange,
 }
 
-// What a field of a node must be.
+// What a field of a node must be: nothing, any word, the number of an earlier node of a sort, or that of a quantifier over a range.
 #[derive(Clone, Copy)]
 pub enum Need {
     Unused,
     Word,
-    SetChild,
-    TermChild,
-    FormulaChild,
-    SetName,
-    NumberName,
-    Never,
+    Child(Sort),
+    Name(Range),
 }
 
 #[derive(Clone, Copy)]
@@ -124,15 +118,14 @@ fn check_parts(words: &[i32], dialect: Dialect, nodes: usize, quantifiers: usize
     if broken < nodes {
         return refused(6, 3 * broken);
     }
-    let root = word(words, words.len() - 4);
-    if !nodes::is_formula(nodes::child_sort(words, nodes, root)) {
+    if !nodes::root_good(words, nodes, quantifiers) {
         return refused(7, words.len() - 4);
     }
     Checked::Accepted(Shape {
         nodes,
         quantifiers,
         sets: sets.seen,
-        root,
+        root: word(words, words.len() - 4),
     })
 }
 

@@ -1,12 +1,12 @@
 -- `checker::check_parts` meets its contract: each way out has failed the tests before it. Assumes nothing.
-use mathlib.Core.Path.{◌≡◌, refl, ◌∙◌}
+use mathlib.Core.Path.{◌≡◌, refl, sym, ◌∙◌}
 use mathlib.Core.List.{[]}
 use Prim.Native.Nat.{◌*◌, ◌-◌}
 use borrow.Author.Tests.{not-true, not-false}
 use lib.ListN.{length}
 use Rattle.checker.specs.declared.Checked.{Checked}
 use Rattle.checker.specs.Check.{table_at, node_refusal, verdict}
-use Rattle.checker.proofs.Verdict.{root_is, at_4, at_5, at_6, at_7, all_pass_lem}
+use Rattle.checker.proofs.Verdict.{at_4, at_5, at_6, at_7, all_pass_lem}
 use Rattle.checker.proofs.check_parts.Goals as goal
 
 -- there are no tests of the form's own
@@ -37,14 +37,14 @@ returns-then-broken-nodes c =
     ∙ at_6 a.dialect (table_at a.words.now a.nodes a.quantifiers) (3 * a.nodes) 3 (length a.words.now - 4) [] _ c.first_bad_quantifier-bad.ensures c.if-bad-quantifiers.false
     _ (rw c.most_sets.ensures at c.sets_of-sets.ensures.over_value) c.if-over-quantifiers.false clear _ c.first_bad_node-broken.ensures c.if-broken-nodes.true
 
-pub returns-then-not-is_formula : goal.returns-then-not-is_formula
+pub returns-then-not-root_good : goal.returns-then-not-root_good
 unfolding table_at
-returns-then-not-is_formula c =
+returns-then-not-root_good c =
     let a = c.args in
-    c.refused-then-not-is_formula.ensures
+    c.refused-then-not-root_good.ensures
     ∙ at_7 a.dialect (table_at a.words.now a.nodes a.quantifiers) (3 * a.nodes) 3 (length a.words.now - 4) [] _ c.first_bad_quantifier-bad.ensures c.if-bad-quantifiers.false
     _ (rw c.most_sets.ensures at c.sets_of-sets.ensures.over_value) c.if-over-quantifiers.false clear _ c.first_bad_node-broken.ensures c.if-broken-nodes.false
-    (root_is (table_at a.words.now a.nodes a.quantifiers) c.word-root.ensures c.child_sort.ensures c.is_formula.ensures (not-true _ c.if-not-is_formula.true-raw))
+    (sym c.root_good.ensures ∙ (not-true _ c.if-not-root_good.true-raw))
 
 pub returns : goal.returns
 unfolding table_at
@@ -52,5 +52,5 @@ returns c =
     let a = c.args in
     all_pass_lem a.dialect (table_at a.words.now a.nodes a.quantifiers) (3 * a.nodes) 3 (length a.words.now - 4) [] _ c.first_bad_quantifier-bad.ensures c.if-bad-quantifiers.false
     _ (rw c.most_sets.ensures at c.sets_of-sets.ensures.over_value) c.if-over-quantifiers.false clear _ c.first_bad_node-broken.ensures c.if-broken-nodes.false
-    (root_is (table_at a.words.now a.nodes a.quantifiers) c.word-root.ensures c.child_sort.ensures c.is_formula.ensures (not-false _ c.if-not-is_formula.false-raw))
-    _ _ c.sets_of-sets.ensures.seen_value c.word-root.ensures
+    (sym c.root_good.ensures ∙ (not-false _ c.if-not-root_good.false-raw))
+    _ _ c.sets_of-sets.ensures.seen_value c.word.ensures

@@ -1,5 +1,5 @@
 -- `checker::quantifiers::sets_of` meets its contract. Assumes nothing.
-use mathlib.Core.Path.{refl}
+use mathlib.Core.Path.{refl, sym, ◌∙◌}
 use native.Mathlib.Omega.{arith}
 use Rattle.checker.specs.Search.{count}
 use Rattle.checker.specs.Table.{binds_set}
@@ -7,19 +7,18 @@ use Rattle.checker.specs.Check.{table_at}
 use Rattle.checker.proofs.Search.{upto_none, upto_end, count_le}
 use Rattle.checker.proofs.Rules.{set_over, set_more, set_same}
 use Rattle.checker.proofs.quantifiers.sets_of.Goals as goal
-use Rattle.checker.proofs.quantifiers.sets_of.Goals.{then-over_sets+else-seen-most, else-over_sets}
+use Rattle.checker.proofs.quantifiers.sets_of.Goals.{then-binds_set+else-seen-most, else-binds_set}
 
 pub loop-i-init : goal.loop-i-init
 unfolding count
 loop-i-init c = (upto_none _ _, refl)
 
 pub returns-then-seen-most : goal.returns-then-seen-most
-unfolding binds_set table_at
 returns-then-seen-most c =
     let a = c.args in
     let l = c.loop-i in record {
       over_value = set_over a.most (table_at a.words.now a.nodes a.quantifiers) a.quantifiers l.i l.seen l.invariant.0 l.invariant.1
-          c.loop-i-test.true (cc) c.if-seen-most.true;
+          c.loop-i-test.true (sym c.binds_set.ensures ∙ c.if-binds_set.true) c.if-seen-most.true;
       seen_value = l.invariant.1;
     }
 
@@ -29,14 +28,13 @@ overflow_add-seen c =
     omega (arith, count_le (binds_set (table_at a.words.now a.nodes a.quantifiers)) c.loop-i.i)
 
 pub loop-i-preserved : goal.loop-i-preserved
-unfolding binds_set table_at
 loop-i-preserved c =
     let a = c.args in
     let l = c.loop-i in
     let h = c.loop-i-test.true in
-    elim c.if-over_sets.branch [
-      | then-over_sets+else-seen-most w ↦ rw w.seen-is (set_more a.most (table_at a.words.now a.nodes a.quantifiers) a.quantifiers l.i l.seen l.invariant.0 l.invariant.1 h (cc w.if-over_sets.true) w.if-seen-most.false)
-      | else-over_sets w ↦ rw w.seen-is (set_same a.most (table_at a.words.now a.nodes a.quantifiers) a.quantifiers l.i l.seen l.invariant.0 l.invariant.1 h (cc w.if-over_sets.false))
+    elim c.if-binds_set.branch [
+      | then-binds_set+else-seen-most w ↦ rw w.seen-is (set_more a.most (table_at a.words.now a.nodes a.quantifiers) a.quantifiers l.i l.seen l.invariant.0 l.invariant.1 h (sym c.binds_set.ensures ∙ w.if-binds_set.true) w.if-seen-most.false)
+      | else-binds_set w ↦ rw w.seen-is (set_same a.most (table_at a.words.now a.nodes a.quantifiers) a.quantifiers l.i l.seen l.invariant.0 l.invariant.1 h (sym c.binds_set.ensures ∙ w.if-binds_set.false))
     ]
 
 pub returns : goal.returns

@@ -1,5 +1,0 @@
--- `checker::dialects::takes_kind` meets its contract: each arm at its dialect. Assumes nothing.
-use Rattle.checker.proofs.dialects.takes_kind.Goals as goal
-
-pub returns-in-Emitted : goal.returns-in-Emitted
-returns-in-Emitted c = rw c.in-Emitted.is c.speaks_of_numbers.ensures
