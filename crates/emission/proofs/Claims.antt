@@ -8,6 +8,7 @@ use native.Mathlib.Omega.{arith}
 use lib.IntN.{ℤ, pos}
 use lib.ListN.{length, get_or, take}
 use lib.Seq.{get_or-take, length-take-le}
+use Rattle.std.specs.Prelude.{Some}
 use Rattle.checker.specs.declared.Shape.{Shape}
 use Rattle.checker.specs.declared.Sort.{Sort}
 use Rattle.checker.specs.Claim.{Node, unknown, int_q}
@@ -67,7 +68,7 @@ module _ {ws : List ℤ} {shape : Shape} (s : Sound ws shape) (i : ℕ) (h : i <
   node_fits = fits_at (claim_of ws).quantifiers (claim_of ws).nodes s.sorted.0 i (omega (arith, s.nodes))
 
 -- a child of node i
-pub child_is : (ns : List Node) (i : ℕ) {t : Sort} (a : ℕ) → i ≤ length ns → Is t (take i ns) a → (a < i) × (sort (get_or ns a unknown) ≡ t)
+pub child_is : (ns : List Node) (i : ℕ) {t : Sort} (a : ℕ) → i ≤ length ns → Is t (take i ns) a → (a < i) × (sort (get_or ns a unknown) ≡ Some t)
 child_is ns i a l f =
     let less : a < i = omega (arith, f.0, length-take-le i ns l) in
     (less, ap sort (sym (get_or-take i ns a unknown less)) ∙ f.1)

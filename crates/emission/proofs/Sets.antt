@@ -9,8 +9,9 @@ use native.Mathlib.Omega.{arith}
 use lib.Dec.{ltb}
 use lib.IntN.{ℤ}
 use lib.ListN.{get_or, take, drop}
+use Rattle.std.specs.Prelude.{Some, None}
 use Rattle.checker.specs.declared.Shape.{Shape}
-use Rattle.checker.specs.declared.Sort.TheVariants.{ASet, ATerm, AFormula, NoSort}
+use Rattle.checker.specs.declared.Sort.TheVariants.{ASet, ATerm, AFormula}
 use Rattle.checker.specs.Claim.{Node, set_var, empty, whole, union, inter, compl, Quantifier, int_q, set_q, count_q}
 use Rattle.checker.specs.Kinds.{within, sort_of}
 use Rattle.checker.specs.Words.{word_at, claim_of}
@@ -84,12 +85,12 @@ bit_is qs q k r b e =
 
 -- ---- the entries of other nodes
 
-apart : (b c : Bool) → cond b ATerm (cond c AFormula NoSort) ≡ ASet → ⊥
+apart : (b c : Bool) → cond b (Some ATerm) (cond c (Some AFormula) None) ≡ Some ASet → ⊥
 apart true c e = let z : ◌≡◌ {A = ℕ} 0 1 = cc in absurd (omega arith)
 apart false true e = let z : ◌≡◌ {A = ℕ} 0 1 = cc in absurd (omega arith)
 apart false false e = let z : ◌≡◌ {A = ℕ} 0 1 = cc in absurd (omega arith)
 
-no_set : (k : ℕ) → 6 < k → sort_of k ≡ ASet → ⊥
+no_set : (k : ℕ) → 6 < k → sort_of k ≡ Some ASet → ⊥
 unfolding sort_of
 no_set k h e = apart (within 10 16 k) (within 20 27 k) (rw (above 1 6 k h) at e)
 

@@ -11,6 +11,7 @@ use borrow.Author.Count.{below_more}
 use lib.Dec.{ltb}
 use lib.ListN.{length, get_or, take, drop, set, length-append, length-set, take-append-drop, get_or-append}
 use lib.Seq.{get_or_at, get_or-take, take-suc-set, take-length, length-take-le}
+use Rattle.std.specs.Prelude.{Some}
 use Rattle.checker.specs.declared.Sort.TheVariants.{ASet}
 use Rattle.checker.specs.Claim.{Node, unknown, Claim}
 use Rattle.checker.specs.Sorts.{sort}
@@ -116,7 +117,7 @@ module _ (c : Claim) (i : ℕ) (h : i < length c.nodes) where
   -- one more entry: of a set node it covers what the node does
   pub patterned_next : {before after : List ℕ} → Patterned c before i → length after ≡ length before
       → ((j : ℕ) → (j ≡ i → ⊥) → (r : ℕ) → covers_at after j r ≡ covers_at before j r)
-      → (sort here ≡ ASet → (r : ℕ) → covers_at after i r ≡ (ltb r (frame_of c).regions && pattern_of (frame_of c) covering here r))
+      → (sort here ≡ Some ASet → (r : ℕ) → covers_at after i r ≡ (ltb r (frame_of c).regions && pattern_of (frame_of c) covering here r))
       → Patterned c after (i + 1)
   patterned_next {before} {after} p long kept entry =
       record {
@@ -124,7 +125,7 @@ module _ (c : Claim) (i : ℕ) (h : i < length c.nodes) where
         room = omega (arith, p.room, words_same before after long);
         covers =
             below_more
-            (λ a. sort (get_or c.nodes a unknown) ≡ ASet → (r : ℕ)
+            (λ a. sort (get_or c.nodes a unknown) ≡ Some ASet → (r : ℕ)
             → covers_at after a r ≡ (ltb r (frame_of c).regions && get_or (emitted_to c (i + 1)).patterns a none r))
             i
             (λ a l s r. kept a (λ e. omega arith) r ∙ p.covers a l s r ∙ ap (λ (w : Set). ltb r (frame_of c).regions && w r) (sym (pattern_before a l)))

@@ -1,6 +1,6 @@
 -- The emission as the code goes through it, node by node: what stands after the first i nodes, the run of node i, and what the code keeps of the
 -- nodes before it. Assumes nothing.
-use Rattle.std.specs.Prelude.{◌≡◌, ◌&&◌, List, [], ℕ, ◌<◌, ◌≤◌, ltb, ℤ, length, get_or, take}
+use Rattle.std.specs.Prelude.{◌≡◌, ◌&&◌, List, [], ℕ, ◌<◌, ◌≤◌, ltb, ℤ, length, get_or, take, Some}
 use Rattle.checker.specs.declared.Shape.{Shape}
 use Rattle.checker.specs.declared.Sort.TheVariants.{ASet}
 use Rattle.checker.specs.declared.Checked.TheVariants.{Accepted}
@@ -29,7 +29,7 @@ run_at c i = run_of (frame_of c) (length e.nodes) (λ a. get_or e.stands a 0) (�
 pub record Patterned (c : Claim) (patterns : List ℕ) (i : ℕ) : Type 0 where
   pub long : length c.nodes ≤ entries patterns
   pub room : (frame_of c).regions ≤ room_in patterns
-  pub covers : (a : ℕ) → a < i → sort (get_or c.nodes a unknown) ≡ ASet → (r : ℕ)
+  pub covers : (a : ℕ) → a < i → sort (get_or c.nodes a unknown) ≡ Some ASet → (r : ℕ)
       → covers_at patterns a r ≡ (ltb r (frame_of c).regions && get_or (emitted_to c i).patterns a none r)
 
 -- The nodes that stand for the first i nodes are noted.

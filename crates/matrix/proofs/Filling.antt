@@ -9,6 +9,7 @@ use lib.Dec.{ltb, eqb}
 use lib.IntN.{ℤ}
 use lib.ListN.{length, get_or, take}
 use lib.Seq.{get_or-take, length-take-le}
+use Rattle.std.specs.Prelude.{Some}
 use Rattle.checker.specs.declared.Sort.TheVariants.{ASet}
 use Rattle.checker.specs.Claim.{Node, set_var, empty, whole, union, inter, compl, num_var, const, maxc, sum, diff, multiple, card, equal, less, divided, set_equal, subset, conj, disj, neg, unknown, Claim}
 use Rattle.checker.specs.Kinds.{number, sort_table, is_set, node_of}
@@ -60,7 +61,7 @@ cut_minus false x y = refl
 
 -- ---- the entry of a set node is its value
 
-set_entry : (w : World) (qs vs : List Value) (n : Node) → sort n ≡ ASet → as_set (value_of w qs vs n) ≡ entry_of qs vs n
+set_entry : (w : World) (qs vs : List Value) (n : Node) → sort n ≡ Some ASet → as_set (value_of w qs vs n) ≡ entry_of qs vs n
 unfolding value_of entry_of
 set_entry w qs vs (set_var q) e = refl
 set_entry w qs vs empty e = refl
@@ -92,7 +93,7 @@ module _ (c : Claim) (i : ℕ) (inside : i < length c.nodes) (patterns : List �
   unfolding set_at
   child_covers w a (l, s) r =
       let below : a < i = rw (length-take-le i c.nodes (omega arith)) at l in
-      let is_set_lem : sort (get_or c.nodes a unknown) ≡ ASet = rw (get_or-take i c.nodes a unknown below) at s in
+      let is_set_lem : sort (get_or c.nodes a unknown) ≡ Some ASet = rw (get_or-take i c.nodes a unknown below) at s in
       filled.entry w a below r
       ∙ ap (λ (v : Set). ltb r (2 ^ sets c.quantifiers) && v r)
       (sym (set_entry w (final_values c.quantifiers) (take a (node_values w c)) (get_or c.nodes a unknown) is_set_lem)

@@ -1,9 +1,9 @@
 -- What stands in the array of values while the counts of the final regions are settled one by one, from region 0 on. Assumes nothing.
-use Rattle.std.specs.Prelude.{◌≡◌, true, false, List, ◌++◌, ℕ, ◌+◌, ◌*◌, ◌^◌, ◌<◌, ◌≤◌, ℤ, nat_abs, length, get_or}
+use Rattle.std.specs.Prelude.{◌≡◌, true, false, List, ◌++◌, ℕ, ◌+◌, ◌*◌, ◌^◌, ◌<◌, ◌≤◌, ℤ, nat_abs, length, get_or, Option, Some, None}
 use Rattle.checker.specs.declared.Shape.{Shape}
 use Rattle.checker.specs.declared.Checked.TheVariants.{Accepted}
 use Rattle.checker.specs.declared.Sort.{Sort}
-use Rattle.checker.specs.declared.Sort.TheVariants.{ASet, ATerm, AFormula, NoSort}
+use Rattle.checker.specs.declared.Sort.TheVariants.{ASet, ATerm, AFormula}
 use Rattle.checker.specs.Claim.{unknown, Claim}
 use Rattle.checker.specs.Words.{word, node_at, claim_of}
 use Rattle.checker.specs.Sorts.{sort, sets}
@@ -22,11 +22,11 @@ pub record Ready (ws : List ℤ) (N : ℕ) : Type 0 where
   pub bounded : first_over N (claim_of ws) ≡ length (claim_of ws).nodes
 
 -- The number x shows a value of a sort: a term's is the number itself, a formula's is 1 if it is true and 0 if not, and sets have none.
-abbrev pub shows : Sort → ℤ → Value → Type 0
-shows ASet x v = Unit {0}
-shows ATerm x v = x ≡ as_num v
-shows AFormula x v = x ≡ bit_z (as_truth v)
-shows NoSort x v = Unit {0}
+abbrev pub shows : Option Sort → ℤ → Value → Type 0
+shows (Some ASet) x v = Unit {0}
+shows (Some ATerm) x v = x ≡ as_num v
+shows (Some AFormula) x v = x ≡ bit_z (as_truth v)
+shows None x v = Unit {0}
 
 -- Entry i of xs shows the value of node i at the counts cs.
 abbrev pub Shown : Claim → List ℕ → List ℤ → ℕ → Type 0

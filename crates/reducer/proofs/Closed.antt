@@ -6,6 +6,7 @@ use mathlib.Core.List.{List, [], ◌∷◌, ◌++◌, append_assoc}
 use Prim.Native.Nat.{ℕ, zero, suc, ◌+◌, ◌*◌, ◌-◌, ◌<◌, ◌≤◌}
 use native.Mathlib.Omega.{arith}
 use lib.ListN.{length, length-append}
+use Rattle.std.specs.Prelude.{Some}
 use Rattle.checker.specs.declared.Sort.TheVariants.{ATerm, AFormula}
 use Rattle.checker.specs.Claim.{Node, Quantifier, Claim, sum, equal, conj, disj, neg, int_q, set_q, count_q}
 use Rattle.checker.specs.Sorts.{sort, Is, Fits, AllFit, WellSorted, sets}
@@ -35,9 +36,9 @@ module _ (qs : List Quantifier) (free : sets qs ≡ 0) where
         let h₁ : k + 1 ≡ length one = omega (arith, length-append done (a ∷ [])) in
         let h₂ : k + 2 ≡ length two = omega (arith, length-append one (b ∷ [])) in
         let h₃ : k + 3 ≡ length three = omega (arith, length-append two (c ∷ [])) in
-        let ia : Is ATerm one k = subst (λ s. Is s one k) (region_sort p i) (is_new done a k l) in
-        let ib : Is ATerm two (k + 1) = subst (λ s. Is s two (k + 1)) (region_sort q (2 * i)) (is_new one b (k + 1) h₁) in
-        let ic : Is ATerm three (k + 2) = subst (λ s. Is s three (k + 2)) (region_sort q (2 * i + 1)) (is_new two c (k + 2) h₂) in (
+        let ia : Is ATerm one k = is_new done a k l (region_sort p i) in
+        let ib : Is ATerm two (k + 1) = is_new one b (k + 1) h₁ (region_sort q (2 * i)) in
+        let ic : Is ATerm three (k + 2) = is_new two c (k + 2) h₂ (region_sort q (2 * i + 1)) in (
           okp i h done,
           (
             okq (2 * i) (omega (arith, dbl_is n)) one,
@@ -45,7 +46,7 @@ module _ (qs : List Quantifier) (free : sets qs ≡ 0) where
               okq (2 * i + 1) (omega (arith, dbl_is n)) two,
               (
                 (is_more two (c ∷ []) (k + 1) ib, ic),
-                ((is_more three (d ∷ []) k (is_more two (c ∷ []) k (is_more one (b ∷ []) k ia)), is_new three d (k + 3) h₃), tt),
+                ((is_more three (d ∷ []) k (is_more two (c ∷ []) k (is_more one (b ∷ []) k ia)), is_new three d (k + 3) h₃ refl), tt),
               ),
             ),
           ),
@@ -66,15 +67,15 @@ module _ (qs : List Quantifier) (free : sets qs ≡ 0) where
         let there : k + 6 ≡ length end = omega (arith, length-append done run) in
         fit_append qs run done (conj k (k + 5) ∷ further_fives p q (k + 6) (i + 1) m) (five_fits i (omega arith) done (k + 1) l) (
           (is_more done run k f, subst (Is AFormula end) (omega arith) (five_end i done (k + 1) l)),
-          further_fits m (i + 1) (omega arith) (end ++ conj k (k + 5) ∷ []) (k + 6) (is_new end (conj k (k + 5)) (k + 6) there)
+          further_fits m (i + 1) (omega arith) (end ++ conj k (k + 5) ∷ []) (k + 6) (is_new end (conj k (k + 5)) (k + 6) there refl)
               (omega (arith, length-append end (conj k (k + 5) ∷ []))),
         )
 
-    further_tail : (m i k : ℕ) (front : List Node) (final : Node) → sort final ≡ AFormula → Tail AFormula (front ++ final ∷ further_fives p q k i m)
+    further_tail : (m i k : ℕ) (front : List Node) (final : Node) → sort final ≡ Some AFormula → Tail (Some AFormula) (front ++ final ∷ further_fives p q k i m)
     unfolding further_fives
     further_tail zero i k front final s = record { front = front; final = final; is = refl; sorted = s }
     further_tail (suc m) i k front final s =
-        subst (Tail AFormula) (append_assoc front (final ∷ five p q (k + 1) i) _)
+        subst (Tail (Some AFormula)) (append_assoc front (final ∷ five p q (k + 1) i) _)
         (further_tail m (i + 1) (k + 6) (front ++ final ∷ five p q (k + 1) i) (conj k (k + 5)) refl)
 
     constraint_fits : 0 < n → (done : List Node) (k : ℕ) → k ≡ length done → AllFit qs done (constraint p q k n)
@@ -83,7 +84,7 @@ module _ (qs : List Quantifier) (free : sets qs ≡ 0) where
         fit_append qs (five p q k 0) done (further_fives p q (k + 4) 1 (n - 1)) (five_fits 0 h done k l)
         (further_fits (n - 1) 1 (omega arith) (done ++ five p q k 0) (k + 4) (five_end 0 done k l) (omega (arith, length-append done (five p q k 0))))
 
-    constraint_tail : (k : ℕ) → Tail AFormula (constraint p q k n)
+    constraint_tail : (k : ℕ) → Tail (Some AFormula) (constraint p q k n)
     unfolding constraint five
     constraint_tail k = further_tail (n - 1) 1 (k + 4) (region_node p 0 ∷ region_node q 0 ∷ region_node q 1 ∷ sum (k + 1) (k + 2) ∷ []) (equal k (k + 3)) refl
 
@@ -103,11 +104,11 @@ module _ (qs : List Quantifier) (free : sets qs ≡ 0) where
     unfolding split_run
     split_fits done = constraint_fits f.place (counts f.next) f.regions parents_fit children_fit fr.some done (length done) refl
 
-    split_tail : (k : ℕ) → Tail AFormula (split_run f k)
+    split_tail : (k : ℕ) → Tail (Some AFormula) (split_run f k)
     unfolding split_run
     split_tail k = constraint_tail f.place (counts f.next) f.regions parents_fit children_fit k
 
-  module _ (run : List Node) (b : Body) (h : Sound b) (fits : AllFit qs b.nodes run) (tail : Tail AFormula run) where
+  module _ (run : List Node) (b : Body) (h : Sound b) (fits : AllFit qs b.nodes run) (tail : Tail (Some AFormula) run) where
     abbrev all : List Node
     all = b.nodes ++ run
 
@@ -122,15 +123,15 @@ module _ (qs : List Quantifier) (free : sets qs ≡ 0) where
 
     some_sound : Sound (join_some run b)
     unfolding join_some
-    some_sound = (fit_append qs all [] _ all_fits ((all_end, all_root), tt), is_new all _ (length all) refl)
+    some_sound = (fit_append qs all [] _ all_fits ((all_end, all_root), tt), is_new all _ (length all) refl refl)
 
     all_sound : Sound (join_all run b)
     unfolding join_all
     all_sound =
         let one = all ++ neg (last 0 all) ∷ [] in (
-          fit_append qs all [] _ all_fits (all_end, ((is_new all (neg (last 0 all)) (length all) refl, is_more all (neg (last 0 all) ∷ []) b.root all_root), tt)),
+          fit_append qs all [] _ all_fits (all_end, ((is_new all (neg (last 0 all)) (length all) refl refl, is_more all (neg (last 0 all) ∷ []) b.root all_root), tt)),
           subst (λ l. Is AFormula l (length all + 1)) (append_assoc all (neg (last 0 all) ∷ []) (disj (length all) b.root ∷ []))
-              (is_new one (disj (length all) b.root) (length all + 1) (omega (arith, length-append all (neg (last 0 all) ∷ [])))),
+              (is_new one (disj (length all) b.root) (length all + 1) (omega (arith, length-append all (neg (last 0 all) ∷ []))) refl),
         )
 
   join_sound : (done : List Quantifier) (f : Frame) → Framed done f → (q : Quantifier) → (inside f q).next ≤ length qs → (b : Body) → Sound b → Sound (join f q b)

@@ -47,8 +47,8 @@ module _ (qs : List Quantifier) (free : sets qs ≡ 0) where
         let here : k + 2 ≡ length one = omega (arith, length-append done (region_node p r ∷ [])) in (
           ok r h done,
           (
-            (is_more done (region_node p r ∷ []) k i, subst (λ s. Is s one (k + 1)) (region_sort p r) (is_new done (region_node p r) (k + 1) l)),
-            sum_fits rs b two (k + 2) (is_new one (sum k (k + 1)) (k + 2) here) (omega (arith, length-append one (sum k (k + 1) ∷ []))),
+            (is_more done (region_node p r ∷ []) k i, is_new done (region_node p r) (k + 1) l (region_sort p r)),
+            sum_fits rs b two (k + 2) (is_new one (sum k (k + 1)) (k + 2) here refl) (omega (arith, length-append one (sum k (k + 1) ∷ []))),
           ),
         )
 
@@ -57,7 +57,7 @@ module _ (qs : List Quantifier) (free : sets qs ≡ 0) where
     card_fits [] b done k l = (tt, tt)
     card_fits (r ∷ rs) (h, b) done k l = (
       ok r h done,
-      sum_fits rs b (done ++ region_node p r ∷ []) k (subst (λ s. Is s (done ++ region_node p r ∷ []) k) (region_sort p r) (is_new done (region_node p r) k l))
+      sum_fits rs b (done ++ region_node p r ∷ []) k (is_new done (region_node p r) k l (region_sort p r))
           (omega (arith, length-append done (region_node p r ∷ []))),
     )
 
@@ -72,7 +72,7 @@ module _ (qs : List Quantifier) (free : sets qs ≡ 0) where
           (
             (
               is_more end (const (pos 0) ∷ []) (last k run) (subst (λ m. Is ATerm end (last m run)) (sym l) (tail_is done run (card_tail p k rs))),
-              is_new end (const (pos 0)) (k + length run) there,
+              is_new end (const (pos 0)) (k + length run) there refl,
             ),
             tt,
           ),

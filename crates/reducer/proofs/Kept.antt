@@ -9,6 +9,7 @@ use lib.Dec.{eqb}
 use lib.IntN.{pos, ◌+ℤ◌, ◌-ℤ◌, ◌*ℤ◌}
 use lib.ListN.{length, get_or, length-append}
 use lib.Signed.{lt_z}
+use Rattle.std.specs.Prelude.{Some}
 use Rattle.checker.specs.declared.Sort.{Sort}
 use Rattle.checker.specs.declared.Sort.TheVariants.{ASet, ATerm, AFormula}
 use Rattle.checker.specs.Claim.{Node, Quantifier, set_var, empty, whole, union, inter, compl, num_var, const, maxc, sum, diff, multiple, card, equal, less, divided, set_equal, subset, conj, disj, neg, unknown}
@@ -54,7 +55,7 @@ module _ (w : World) (qs : List Quantifier) (f : Frame) (us vs : List Value) (cs
 
   pub record Kept (done : List Node) (e : Emitted) : Type 0 where
     pub sets : (a : ℕ) → Is ASet done a → set_at (ins done) a ≡ get_or e.patterns a none
-    pub others : (s : Sort) → Scalar s → (a : ℕ) → Is s done a → get_or (outs e) (get_or e.stands a 0) no_value ≡ get_or (ins done) a no_value
+    pub others : (s : Sort) → Scalar (Some s) → (a : ℕ) → Is s done a → get_or (outs e) (get_or e.stands a 0) no_value ≡ get_or (ins done) a no_value
 
   module _ (done : List Node) (e : Emitted) (h : Kept done e) where
     abbrev st : ℕ → ℕ
@@ -179,10 +180,10 @@ module _ (w : World) (qs : List Quantifier) (f : Frame) (us vs : List Value) (cs
 
       new_set : Is ASet (done ++ n ∷ []) (length e.patterns) → set_at (ins (done ++ n ∷ [])) (length e.patterns) ≡ pattern_of f (pat done e h) n
       new_set j =
-          let k : sort n ≡ ASet = new_sort done n _ sh.patterns_long j in
+          let k : sort n ≡ Some ASet = new_sort done n _ sh.patterns_long j in
           set_at_lem _ _ (new_in _ sh.patterns_long) ∙ pattern_is done e h n (ap is_set k) i
 
-      old_value : (s : Sort) → Scalar s → (a : ℕ) → a < length e.stands → Is s (done ++ n ∷ []) a
+      old_value : (s : Sort) → Scalar (Some s) → (a : ℕ) → a < length e.stands → Is s (done ++ n ∷ []) a
           → get_or all (get_or e.stands a 0) no_value ≡ get_or (ins (done ++ n ∷ [])) a no_value
       old_value s sc a l j =
           let d : a < length done = omega (arith, sh.stands_long) in
@@ -190,10 +191,10 @@ module _ (w : World) (qs : List Quantifier) (f : Frame) (us vs : List Value) (cs
           ap (λ x. get_or x (get_or e.stands a 0) no_value) (values-append w us [] e.nodes run)
           ∙ values_keep w us (outs e) run _ (omega (arith, outs_long, (sh.placed s sc a was).0)) ∙ h.others s sc a was ∙ sym (old_in a d)
 
-      new_value : (s : Sort) → Scalar s → Is s (done ++ n ∷ []) (length e.stands)
+      new_value : (s : Sort) → Scalar (Some s) → Is s (done ++ n ∷ []) (length e.stands)
           → get_or all (last (length e.nodes) run) no_value ≡ get_or (ins (done ++ n ∷ [])) (length e.stands) no_value
       new_value s sc j =
-          let k : sort n ≡ s = new_sort done n _ sh.stands_long j in
+          let k : sort n ≡ Some s = new_sort done n _ sh.stands_long j in
           let r : Ends w us (outs e) run v = run_ends done e h n (subst Scalar (sym k) sc) i (length e.nodes) (sym outs_long) in
           ap (λ x. get_or x (last (length e.nodes) run) no_value) (values-append w us [] e.nodes run)
           ∙ ends_at w us r (length e.nodes) (sym outs_long) ∙ sym (new_in _ sh.stands_long)

@@ -11,8 +11,10 @@ use borrow.Author.Tests.{eqb-false}
 use lib.Dec.{eqb}
 use lib.IntN.{ℤ, pos, negsuc}
 use lib.ListN.{length, get_or}
+use Rattle.std.specs.Prelude as claim
+use Rattle.std.specs.Prelude.{Some, None}
 use Rattle.checker.specs.declared.Sort.{Sort as ClaimSort}
-use Rattle.checker.specs.declared.Sort.TheVariants.{ASet, ATerm, AFormula, NoSort}
+use Rattle.checker.specs.declared.Sort.TheVariants.{ASet, ATerm, AFormula}
 use Rattle.checker.specs.Claim.{Node, set_var, empty, whole, union, inter, compl, num_var, const, maxc, sum, diff, multiple, card, equal, less, divided, set_equal, subset, conj, disj, neg, unknown, Quantifier, int_q, set_q, count_q, Claim}
 use Rattle.checker.specs.Sorts.{sort, sets, Is, Fits, AllFit, WellSorted}
 use Rattle.sentence.specs.Smt.{the_size, variable, result, plus, subtract, times, equals, below, at_least, both, either, Expr, Sentence, says}
@@ -22,11 +24,11 @@ use Rattle.sentence.proofs.Lists.{get_d_snoc, length-snoc}
 
 -- ---- terms are of sort Int, formulas of sort Bool
 
-abbrev sort_for : ClaimSort → Option Sort
-sort_for ASet = none
-sort_for ATerm = just int
-sort_for AFormula = just bool
-sort_for NoSort = none
+abbrev sort_for : claim.Option ClaimSort → Option Sort
+sort_for (Some ASet) = none
+sort_for (Some ATerm) = just int
+sort_for (Some AFormula) = just bool
+sort_for None = none
 
 -- n quantifiers and the nodes `done` are bound
 record Bound (n : ℕ) (done : List Node) (g : Context) : Type 0 where
