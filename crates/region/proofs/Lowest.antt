@@ -65,8 +65,6 @@ trailing_lowest zero p pos h = absurd (omega arith)
 trailing_lowest (suc k) p pos h =
     trailing_step k p (p % 2) refl (mod-lt p (zero-lt-suc 1)) pos (λ a. trailing_lowest k (p / 2) a (omega (arith, pow-suc 2 k)))
 
--- ---- the first region from `from` on
-
 -- ---- without the lowest bit: p & (p - 1)
 
 -- one less: the lowest bit falls, and those above it stay

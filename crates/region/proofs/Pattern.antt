@@ -14,8 +14,8 @@ use lib.Seq.{get_or-set_same, get_or-set_other}
 use Rattle.checker.specs.declared.Shape.{Shape}
 use Rattle.checker.specs.Check.{max_nodes, max_sets}
 use Rattle.checker.specs.Meaning.{Set}
-use Rattle.region.specs.declared.Form.{Form}
-use Rattle.region.specs.declared.Form.TheVariants.{Nothing, Whole, Inside, Union, Intersection, Difference, Exclusive, Complement}
+use Rattle.region.specs.declared.form.Form.{Form}
+use Rattle.region.specs.declared.form.Form.TheVariants.{Nothing, Whole, Inside, Union, Intersection, Difference, Exclusive, Complement}
 use Rattle.region.specs.Regions.{covered}
 use Rattle.region.specs.Pattern.{covers, word_bits, covers_words, pattern_words, pattern_bits, stride, entries, words_in, room_in, word_in, Roomy, covers_at, regions_from, covering, Asks, Put, End}
 use Rattle.region.proofs.Bits.{covers_of_zero, covers_high, covers_last}
@@ -111,9 +111,6 @@ module _ (patterns : List ℕ) (i from : ℕ) (some : 0 < length (regions_from p
   unfolding regions_from
   from_below = omega (arith, covered_le (room_in patterns - from) from (covers_at patterns i), some)
 
-  pub word_below : (i < stride) × (stride * (from / word_bits) + i < length patterns)
-  word_below = word_there patterns i (from / word_bits) entry_below (omega (arith, from_below))
-
 -- ---- the end of an entry
 
 -- word j is the last that is not 0, and has m bits
@@ -167,9 +164,6 @@ pub record Stored (before : List ℕ) (i : ℕ) (wanted : Set) (j : ℕ) (now : 
   pub long : length now ≡ length before
   pub new : (m b : ℕ) → m < j → b < word_bits → covers (word_in now i m) b ≡ wanted (word_bits * m + b)
   pub old : (k : ℕ) → ((m : ℕ) → m < j → k ≡ stride * m + i → ⊥) → get_or now k 0 ≡ get_or before k 0
-
-pub stored_none : (l : List ℕ) (i : ℕ) (wanted : Set) → Stored l i wanted 0 l
-stored_none l i wanted = record { long = refl; new = λ m b h k. absurd (omega arith); old = λ k h. refl }
 
 -- one word more
 pub stored_more : {l now : List ℕ} {i : ℕ} {wanted : Set} (j word : ℕ) → stride * j + i < length l

@@ -5,12 +5,15 @@ use mathlib.Core.Bool.{true, false, true≢false}
 use mathlib.Core.List.{List, ◌∷◌, ◌++◌, map}
 use Prim.Native.Nat.{ℕ, zero, suc, ◌+◌, ◌-◌, ◌*◌, ◌/◌, ◌%◌, ◌^◌, ◌≤◌, ◌<◌}
 use native.Mathlib.Decide.{dec_le}
+use native.Mathlib.Nat.{zero-add}
 use native.Mathlib.Numerals.{add-one}
 use native.Mathlib.Omega.{arith}
 use borrow.Author.Tests.{lt-ltb, le-ltb}
 use lib.Count.{ones}
 use lib.ListN.{length, take, drop, length-map, length-append, length-drop, take-append-drop}
 use lib.Seq.{length-take-le, take_all}
+use Rattle.std.specs.List.{sum, range_with_len}
+use Rattle.std.proofs.lemmas.List.FromFn.{sum_by-map-range_with_len_more}
 use Rattle.checker.specs.Meaning.{Set}
 use Rattle.region.specs.Regions.{covered, over}
 use Rattle.region.specs.Pattern.{covers, word_bits, covers_words}
@@ -60,10 +63,6 @@ same_words w f g e =
 
 -- ---- how many regions
 
-unfoldable pub bits_in : ℕ → (ℕ → ℕ) → ℕ
-bits_in zero f = 0
-bits_in (suc w) f = bits_in w f + ones (f w)
-
 -- the regions of one word
 word_part : (w : ℕ) (f : ℕ → ℕ) (j : ℕ) → j < w
     → covered (word_bits * j + 0) word_bits (covers_words w f) ≡ map (λ r. word_bits * j + r) (covered 0 word_bits (covers (f j)))
@@ -73,8 +72,8 @@ word_part w f j h =
     (covered_same word_bits 0 (λ r. covers_words w f (word_bits * j + r)) (covers (f j)) (λ r _ l. at_place w f j r h (omega arith)))
 
 pub covered_words : (w : ℕ) (f : ℕ → ℕ) → ((j : ℕ) → j < w → f j < 2 ^ word_bits)
-    → length (covered 0 (word_bits * w) (covers_words w f)) ≡ bits_in w f
-unfolding bits_in covered
+    → length (covered 0 (word_bits * w) (covers_words w f)) ≡ sum (map (λ j. ones (f j)) (range_with_len 0 w))
+unfolding covered
 covered_words zero f h = refl
 covered_words (suc w) f h =
     let all : Set = covers_words (suc w) f in
@@ -87,6 +86,7 @@ covered_words (suc w) f h =
     ∙ covered_words w f (λ j l. h j (omega arith)))
     (ap (λ (n : ℕ). length (covered n word_bits all)) place ∙ ap length (word_part (suc w) f w (omega arith))
     ∙ length-map (covered 0 word_bits (covers (f w))) (λ r. word_bits * w + r) ∙ covered_ones word_bits (f w) (h w (omega arith)))
+    ∙ rw add-one at (sym (sum_by-map-range_with_len_more (λ n. n) (λ j. ones (f j)) 0 w w (zero-add w)))
 
 -- ---- how many ports
 
@@ -112,16 +112,6 @@ over_word w f cs fits room =
     bit : (r : ℕ) → Dec (word_bits ≤ r) → covers_words (w + 1) f (word_bits * w + r) ≡ covers (f w) r
     bit r (yes h) = past_words (w + 1) f (word_bits * w + r) (omega arith) ∙ sym (covers_high word_bits (f w) r fits h)
     bit r (no h) = at_place (w + 1) f w r (omega arith) (omega arith)
-
--- the first word
-pub over_first : (f : ℕ → ℕ) (cs : List ℕ) → f 0 < 2 ^ word_bits → over (covers_words 1 f) cs ≡ over (covers (f 0)) cs
-over_first f cs fits = over_same cs (covers_words 1 f) (covers (f 0)) (λ r _. bit r (dec_le word_bits r))
-  where
-    bit : (r : ℕ) → Dec (word_bits ≤ r) → covers_words 1 f r ≡ covers (f 0) r
-    bit r (yes h) = past_words 1 f r (omega arith) ∙ sym (covers_high word_bits (f 0) r fits h)
-    bit r (no h) =
-        let e : word_bits * 0 + r ≡ r = omega arith in
-        rw e at (at_place 1 f 0 r (omega arith) (omega arith))
 
 -- the words past the regions that there are do not matter
 pub over_short : (v w : ℕ) (f : ℕ → ℕ) (cs : List ℕ) → v ≤ w → length cs ≤ word_bits * v → over (covers_words w f) cs ≡ over (covers_words v f) cs

@@ -5,8 +5,8 @@ use Rattle.std.specs.Bool.{xor}
 use Rattle.checker.specs.declared.Shape.{Shape}
 use Rattle.checker.specs.Check.{max_nodes}
 use Rattle.checker.specs.Meaning.{Set}
-use Rattle.region.specs.declared.Form.{Form}
-use Rattle.region.specs.declared.Form.TheVariants.{Nothing, Whole, Inside, Union, Intersection, Difference, Exclusive, Complement}
+use Rattle.region.specs.declared.form.Form.{Form}
+use Rattle.region.specs.declared.form.Form.TheVariants.{Nothing, Whole, Inside, Union, Intersection, Difference, Exclusive, Complement}
 use Rattle.region.specs.Regions.{minus, over, covered}
 
 -- bit r of p is set

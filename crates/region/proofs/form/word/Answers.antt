@@ -7,7 +7,7 @@ use lib.Bits.{bit_and}
 use lib.Dec.{ltb}
 use Rattle.region.specs.Pattern.{covers, word_bits}
 use Rattle.region.proofs.Bits.{covers_of_zero, covers-and, covers-or, covers-xor, covers-not}
-use Rattle.region.proofs.word.Goals as goal
+use Rattle.region.proofs.form.word.Goals as goal
 
 -- the bits of a word that another has not
 minus : (p q b : ℕ) (x y : Bool) → q < 2 ^ word_bits → b < word_bits → covers p b ≡ x → covers q b ≡ y
@@ -15,25 +15,9 @@ minus : (p q b : ℕ) (x y : Bool) → q < 2 ^ word_bits → b < word_bits → c
 minus p q b x y fits h ex ey =
     covers-and p (2 ^ word_bits - 1 - q) b ∙ ap₂ (◌&&◌) ex (covers-not word_bits q b fits ∙ rw (lt-ltb b word_bits h, ey))
 
-pub whole-requires : goal.whole-requires
-whole-requires c =
-    (rw c.in-Whole.is at c.requires.0, c.requires.1)
-
-pub whole-requires-in-Inside : goal.whole-requires-in-Inside
-whole-requires-in-Inside c =
-    (rw c.in-Inside.is at c.requires.0, c.requires.1)
-
-pub whole-requires-in-Complement : goal.whole-requires-in-Complement
-whole-requires-in-Complement c =
-    (rw c.in-Complement.is at c.requires.0, c.requires.1)
-
 pub returns-in-Nothing : goal.returns-in-Nothing
 returns-in-Nothing c v w ex ey b h =
     rw c.in-Nothing.is (covers_of_zero b)
-
-pub returns-in-Whole : goal.returns-in-Whole
-returns-in-Whole c v w ex ey b h =
-    rw c.in-Whole.is (c.whole.ensures b h)
 
 pub returns-in-Inside : goal.returns-in-Inside
 returns-in-Inside c v w ex ey b h =

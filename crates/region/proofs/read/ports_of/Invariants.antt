@@ -5,11 +5,14 @@ use Prim.Native.Nat.{ℕ, ◌+◌, ◌^◌, ◌<◌, ◌≤◌}
 use lib.ListN.{length}
 use Rattle.region.specs.Regions.{over}
 use Rattle.region.specs.Pattern.{covers, word_bits}
-use Rattle.region.proofs.ports_of.Given as goal
+use Rattle.region.proofs.read.ports_of.Given as goal
 
 abbrev pub invariant-loop-left : goal.invariant-loop-left
-invariant-loop-left l =
-    (l.left < 2 ^ word_bits) × (l.ports + over (covers l.left) l.counts ≡ over (covers l.word) l.counts) × ((r : ℕ) → length l.counts ≤ r → covers l.left r ≡ false)
+invariant-loop-left l = record {
+  fits : l.left < 2 ^ word_bits;
+  counted : l.ports + over (covers l.left) l.counts ≡ over (covers l.word) l.counts;
+  by_index : (r : ℕ) → length l.counts ≤ r → covers l.left r ≡ false;
+}
 
 abbrev pub decreases-loop-left : goal.decreases-loop-left
 decreases-loop-left l = l.left

@@ -2,10 +2,7 @@
 use mathlib.Core.Path.{◌≡◌}
 use Prim.Native.Nat.{ℕ, ◌≤◌, ◌<◌}
 use Rattle.region.specs.Pattern.{words_in, word_in}
-use Rattle.region.proofs.end.Given as goal
+use Rattle.region.proofs.read.end.Given as goal
 
 abbrev pub invariant-loop-j : goal.invariant-loop-j
-invariant-loop-j l = (l.j ≤ words_in l.patterns) × ((m : ℕ) → l.j ≤ m → m < words_in l.patterns → word_in l.patterns l.i m ≡ 0)
-
-abbrev pub decreases-loop-j : goal.decreases-loop-j
-decreases-loop-j l = l.j
+invariant-loop-j l = (m : ℕ) → l.j ≤ m → m < words_in l.patterns → word_in l.patterns l.i m ≡ 0

@@ -1,0 +1,8 @@
+-- `region::ports_in` meets its contract: the ports of the first words, word by word, until there are no more counts. Assumes nothing.
+use mathlib.Core.Path.{◌≡◌}
+use Rattle.region.specs.Regions.{over}
+use Rattle.region.specs.Pattern.{covers_words, word_in}
+use Rattle.region.proofs.read.ports_in.Given as goal
+
+abbrev pub invariant-loop-j : goal.invariant-loop-j
+invariant-loop-j l = l.ports ≡ over (covers_words l.j (word_in l.patterns l.i)) l.counts
