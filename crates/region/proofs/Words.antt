@@ -113,6 +113,16 @@ over_word w f cs fits room =
     bit r (yes h) = past_words (w + 1) f (word_bits * w + r) (omega arith) ∙ sym (covers_high word_bits (f w) r fits h)
     bit r (no h) = at_place (w + 1) f w r (omega arith) (omega arith)
 
+-- the first word
+pub over_first : (f : ℕ → ℕ) (cs : List ℕ) → f 0 < 2 ^ word_bits → over (covers_words 1 f) cs ≡ over (covers (f 0)) cs
+over_first f cs fits = over_same cs (covers_words 1 f) (covers (f 0)) (λ r _. bit r (dec_le word_bits r))
+  where
+    bit : (r : ℕ) → Dec (word_bits ≤ r) → covers_words 1 f r ≡ covers (f 0) r
+    bit r (yes h) = past_words 1 f r (omega arith) ∙ sym (covers_high word_bits (f 0) r fits h)
+    bit r (no h) =
+        let e : word_bits * 0 + r ≡ r = omega arith in
+        rw e at (at_place 1 f 0 r (omega arith) (omega arith))
+
 -- the words past the regions that there are do not matter
 pub over_short : (v w : ℕ) (f : ℕ → ℕ) (cs : List ℕ) → v ≤ w → length cs ≤ word_bits * v → over (covers_words w f) cs ≡ over (covers_words v f) cs
 over_short v w f cs h l = over_same cs (covers_words w f) (covers_words v f) (λ r m. below_words v w f r h (omega arith))

