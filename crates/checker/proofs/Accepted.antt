@@ -1,4 +1,5 @@
 -- What the checker accepts: exactly the words of well-sorted claims within the limits of the dialect, of kinds that it takes. Assumes nothing.
+use Rattle.std.proofs.Common.{Ok}
 use mathlib.Core.Path.{◌≡◌, refl, sym, ◌∙◌, ap}
 use mathlib.Core.Logic.{◌↔◌}
 use mathlib.Core.Bool.{true, false}
@@ -16,7 +17,6 @@ use Rattle.checker.specs.declared.Shape.{Shape}
 use Rattle.checker.specs.declared.Sort.TheVariants.{AFormula}
 use Rattle.checker.specs.declared.Row.{Row}
 use Rattle.checker.specs.declared.Range.TheVariants.{Sets}
-use Rattle.checker.specs.declared.Checked.TheVariants.{Accepted}
 use Rattle.checker.specs.Claim.{Node, unknown, Quantifier, int_q, set_q, count_q, Claim}
 use Rattle.checker.specs.Kinds.{number, sort_of, range_of, is_range}
 use Rattle.checker.specs.Words.{word, word_at, nodes_in, quantifiers_in, claim_of, fields_of, node_words, nodes_words, quantifier_word, trailer, words_of}
@@ -48,7 +48,7 @@ pub record ClaimedAs (d : Dialect) (ws : List ℤ) (s : Shape) : Type 0 where
 shape_is : {s t : Shape} → s.nodes ≡ t.nodes → s.quantifiers ≡ t.quantifiers → s.sets ≡ t.sets → s.root ≡ t.root → s ≡ t
 shape_is n q m r = λ i. record { nodes = n i; quantifiers = q i; sets = m i; root = r i }
 
-pub accepted_claim_as : (d : Dialect) (ws : List ℤ) (s : Shape) → check_as d ws ≡ Accepted s → ClaimedAs d ws s
+pub accepted_claim_as : (d : Dialect) (ws : List ℤ) (s : Shape) → check_as d ws ≡ Ok s → ClaimedAs d ws s
 unfolding shape_of table_at claim_of
 accepted_claim_as d ws s e =
     let a = accepted_good d ws s e in
@@ -180,7 +180,7 @@ module _ (d : Dialect) (c : Claim) where
         rw (root_word c, lt-ltb c.root n h, s)
 
     -- The words of a well-sorted claim within the limits, of kinds that are taken, are accepted.
-    pub claim_accepted_as : check_as d ws ≡ Accepted (claim_shape c)
+    pub claim_accepted_as : check_as d ws ≡ Ok (claim_shape c)
     unfolding shape_of table_at
     claim_accepted_as =
         good_accepted d ws n q
@@ -201,11 +201,11 @@ module _ (d : Dialect) (c : Claim) where
             root_good_lem = root_passes;
           };
         })
-        ∙ ap Accepted (shape_is refl refl sets_in_lem (root_word c))
+        ∙ ap Ok (shape_is refl refl sets_in_lem (root_word c))
 
 -- Words are accepted exactly if they are those of such a claim.
 pub accepted_exactly_as : (d : Dialect) (ws : List ℤ)
-    → ((s : Shape) × (check_as d ws ≡ Accepted s)) ↔ ((c : Claim) × (words_of c ≡ ws) × LimitedAs d c × Taken d c × WellSorted c)
+    → ((s : Shape) × (check_as d ws ≡ Ok s)) ↔ ((c : Claim) × (words_of c ≡ ws) × LimitedAs d c × Taken d c × WellSorted c)
 accepted_exactly_as d ws = (
   λ (s, e). let a = accepted_claim_as d ws s e in (claim_of ws, a.words, a.limited, a.taken, a.sorted),
   λ (c, e, l, t, s). (claim_shape c, rw (← e) (claim_accepted_as d c l t s)),
@@ -216,17 +216,17 @@ accepted_exactly_as d ws = (
 abbrev pub Claimed : List ℤ → Shape → Type 0
 Claimed ws s = ClaimedAs SetClaims ws s
 
-pub accepted_claim : (ws : List ℤ) (s : Shape) → check_of ws ≡ Accepted s → Claimed ws s
+pub accepted_claim : (ws : List ℤ) (s : Shape) → check_of ws ≡ Ok s → Claimed ws s
 unfolding check_of
 accepted_claim ws s e = accepted_claim_as SetClaims ws s e
 
-pub claim_accepted : (c : Claim) → Limited c → WellSorted c → check_of (words_of c) ≡ Accepted (claim_shape c)
+pub claim_accepted : (c : Claim) → Limited c → WellSorted c → check_of (words_of c) ≡ Ok (claim_shape c)
 unfolding check_of
 claim_accepted c l s =
     claim_accepted_as SetClaims c l (record { nodes = all_of _ (λ n. refl) c.nodes; quantifiers = all_of _ (λ q. refl) c.quantifiers }) s
 
 -- Words are accepted exactly if they are those of a well-sorted claim within the limits.
-pub accepted_exactly : (ws : List ℤ) → ((s : Shape) × (check_of ws ≡ Accepted s)) ↔ ((c : Claim) × (words_of c ≡ ws) × Limited c × WellSorted c)
+pub accepted_exactly : (ws : List ℤ) → ((s : Shape) × (check_of ws ≡ Ok s)) ↔ ((c : Claim) × (words_of c ≡ ws) × Limited c × WellSorted c)
 accepted_exactly ws = (
   λ (s, e). let a = accepted_claim ws s e in (claim_of ws, a.words, a.limited, a.sorted),
   λ (c, e, l, s). (claim_shape c, rw (← e) (claim_accepted c l s)),

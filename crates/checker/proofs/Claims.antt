@@ -1,5 +1,6 @@
 -- What is known of the claim that words are read as: how many nodes and quantifiers it has and what stands at each, and, where the words are
 -- accepted, what the shape that is handed on says of it. Assumes nothing.
+use Rattle.std.proofs.Common.{Ok}
 use mathlib.Core.Path.{◌≡◌, ap}
 use mathlib.Core.Bool.{true}
 use mathlib.Core.List.{List}
@@ -8,7 +9,6 @@ use native.Mathlib.Omega.{arith}
 use lib.IntN.{ℤ}
 use lib.ListN.{length, get_or}
 use Rattle.checker.specs.declared.Shape.{Shape}
-use Rattle.checker.specs.declared.Checked.TheVariants.{Accepted}
 use Rattle.checker.specs.Claim.{unknown, int_q}
 use Rattle.checker.specs.Words.{nodes_in, quantifiers_in, node_at, quantifier_at, claim_of, words_of}
 use Rattle.checker.specs.Sorts as Sorts
@@ -49,7 +49,7 @@ pub record Sound (ws : List ℤ) (shape : Shape) : Type 0 where
   pub few_sets : shape.sets ≤ max_sets
   pub long : length ws ≡ 3 * shape.nodes + shape.quantifiers + 4
 
-pub sound : (ws : List ℤ) (shape : Shape) → check_of ws ≡ Accepted shape → Sound ws shape
+pub sound : (ws : List ℤ) (shape : Shape) → check_of ws ≡ Ok shape → Sound ws shape
 sound ws shape e =
     let a = accepted_claim ws shape e in
     let n : shape.nodes ≡ length (claim_of ws).nodes = ap (λ s. s.nodes) a.shape in

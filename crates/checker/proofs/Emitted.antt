@@ -1,5 +1,6 @@
 -- Emitted tables: no quantifier binds a set, and every kind speaks of numbers. So an accepted one speaks of numbers alone, and what does is accepted.
 -- Assumes nothing.
+use Rattle.std.proofs.Common.{Ok}
 use mathlib.Core.Path.{◌≡◌, refl}
 use mathlib.Core.Bool.{true, false, false≢true}
 use mathlib.Core.List.{List, [], ◌∷◌}
@@ -7,7 +8,6 @@ use Prim.Native.Nat.{◌≤◌}
 use native.Mathlib.Omega.{arith}
 use lib.ListN.{length}
 use Rattle.checker.specs.declared.Dialect.TheVariants.{Emitted}
-use Rattle.checker.specs.declared.Checked.TheVariants.{Accepted}
 use Rattle.checker.specs.Claim.{Quantifier, int_q, set_q, count_q, Claim}
 use Rattle.checker.specs.Kinds.{number, range_of}
 use Rattle.checker.specs.Words.{words_of}
@@ -35,7 +35,7 @@ without_sets (count_q true ∷ qs) e = (refl, without_sets qs e)
 without_sets (count_q false ∷ qs) e = (refl, without_sets qs e)
 
 pub emitted_accepted : (c : Claim) → WellSorted c → length c.nodes ≤ most_nodes Emitted → length c.quantifiers ≤ most_quantifiers Emitted
-    → KindsTaken Emitted c.nodes → sets c.quantifiers ≡ 0 → check_as Emitted (words_of c) ≡ Accepted (claim_shape c)
+    → KindsTaken Emitted c.nodes → sets c.quantifiers ≡ 0 → check_as Emitted (words_of c) ≡ Ok (claim_shape c)
 emitted_accepted c s n q t e =
     claim_accepted_as Emitted c
     (record {

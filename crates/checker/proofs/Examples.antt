@@ -1,31 +1,33 @@
 -- Tables worked out by the definition itself, in each dialect: some that are accepted, and one for each number that is given. Assumes nothing.
+use Rattle.std.proofs.Common.{Result, Ok, Err}
+use Rattle.checker.specs.declared.refusals.Refusal.TheVariants as refused
+use Rattle.checker.specs.declared.Shape.{Shape}
+use Rattle.checker.specs.declared.refusals.Refusal.{Refusal}
 use mathlib.Core.Path.{◌≡◌, refl}
 use mathlib.Core.List.{List, [], ◌∷◌, ◌++◌, map}
 use Prim.Native.Nat.{ℕ}
 use lib.IntN.{ℤ, pos, negsuc}
 use Rattle.checker.specs.declared.Dialect.{Dialect}
 use Rattle.checker.specs.declared.Dialect.TheVariants.{SetClaims, Emitted}
-use Rattle.checker.specs.declared.Checked.{Checked}
-use Rattle.checker.specs.declared.Checked.TheVariants.{Accepted, Refused}
 use Rattle.checker.specs.Kinds.{number, row_of, sort_of, range_of}
 use Rattle.checker.specs.Words.{word_at, tab}
 use Rattle.checker.specs.Search.{first, first_from, count}
 use Rattle.checker.specs.Table.{child_sort, name_range, serves, field_good, node_good, node_taken, bad_node, root_good, quantifier_taken, bad_quantifier, binds_set, one_too_many}
 use Rattle.checker.proofs.Rowwise.{◌▸◌}
-use Rattle.checker.specs.Check.{refusal, verdict, shape_tests, quantifier_tests, node_refusal, node_tests, shape_of, parts_of, table_at, rest_of, check_as}
+use Rattle.checker.specs.Check.{verdict, shape_tests, quantifier_tests, node_refusal, node_tests, shape_of, parts_of, table_at, rest_of, check_as}
 
 pub record Example : Type 0 where
   pub words : List ℤ
-  pub answer : Checked
+  pub answer : Result Shape Refusal
 
-abbrev example : List ℤ → Checked → Example
+abbrev example : List ℤ → Result Shape Refusal → Example
 example ws a = record { words = ws; answer = a }
 
 abbrev numbers : List ℕ → List ℤ
 numbers ns = map pos ns
 
-abbrev gives : ℕ → ℕ → Checked
-gives n p = Refused (refusal n p)
+abbrev gives : Refusal → Result Shape Refusal
+gives r = Err r
 
 -- MAXC = MAXC, under q quantifiers over counts
 abbrev under : ℕ → List ℤ
@@ -43,26 +45,26 @@ emitted =
 
 abbrev pub examples : List Example
 examples =
-    example claim (Accepted (record { nodes = 4; quantifiers = 1; sets = 1; root = 3 }))
-    ∷ example [] (gives 1 0)
-    ∷ example (numbers (2 ∷ 0 ∷ 0 ∷ 0 ∷ 1 ∷ 0 ∷ 2006 ∷ [])) (gives 1 0)
-    ∷ example (numbers (0 ∷ 0 ∷ 0 ∷ 2005 ∷ [])) (gives 2 1)
-    ∷ example (pos 0 ∷ pos 1 ∷ negsuc 0 ∷ pos 2005 ∷ []) (gives 2 2)
-    ∷ example (under 33) (gives 2 41)
-    ∷ example (numbers (2 ∷ 0 ∷ 0 ∷ 0 ∷ 2 ∷ 0 ∷ 2005 ∷ [])) (gives 3 0)
-    ∷ example (numbers (12 ∷ 0 ∷ 0 ∷ 3 ∷ 7 ∷ 0 ∷ 1 ∷ 2 ∷ 2005 ∷ [])) (gives 4 4)
-    ∷ example (numbers (12 ∷ 0 ∷ 0 ∷ 3 ∷ 3 ∷ 4 ∷ 1 ∷ 3 ∷ 4 ∷ 3 ∷ 4 ∷ 3 ∷ 4 ∷ 0 ∷ 1 ∷ 10 ∷ 2005 ∷ [])) (gives 5 12)
-    ∷ example (numbers (12 ∷ 0 ∷ 0 ∷ 20 ∷ 0 ∷ 1 ∷ 1 ∷ 2 ∷ 0 ∷ 2005 ∷ [])) (gives 6 3)
-    ∷ example (numbers (12 ∷ 0 ∷ 0 ∷ 0 ∷ 1 ∷ 0 ∷ 2005 ∷ [])) (gives 7 3)
+    example claim (Ok (record { nodes = 4; quantifiers = 1; sets = 1; root = 3 }))
+    ∷ example [] (gives refused.Unmarked)
+    ∷ example (numbers (2 ∷ 0 ∷ 0 ∷ 0 ∷ 1 ∷ 0 ∷ 2006 ∷ [])) (gives refused.Unmarked)
+    ∷ example (numbers (0 ∷ 0 ∷ 0 ∷ 2005 ∷ [])) (gives (refused.Count 1))
+    ∷ example (pos 0 ∷ pos 1 ∷ negsuc 0 ∷ pos 2005 ∷ []) (gives (refused.Count 2))
+    ∷ example (under 33) (gives (refused.Count 41))
+    ∷ example (numbers (2 ∷ 0 ∷ 0 ∷ 0 ∷ 2 ∷ 0 ∷ 2005 ∷ [])) (gives refused.Length)
+    ∷ example (numbers (12 ∷ 0 ∷ 0 ∷ 3 ∷ 7 ∷ 0 ∷ 1 ∷ 2 ∷ 2005 ∷ [])) (gives (refused.UnknownQuantifier 4))
+    ∷ example (numbers (12 ∷ 0 ∷ 0 ∷ 3 ∷ 3 ∷ 4 ∷ 1 ∷ 3 ∷ 4 ∷ 3 ∷ 4 ∷ 3 ∷ 4 ∷ 0 ∷ 1 ∷ 10 ∷ 2005 ∷ [])) (gives (refused.TooManySets 12))
+    ∷ example (numbers (12 ∷ 0 ∷ 0 ∷ 20 ∷ 0 ∷ 1 ∷ 1 ∷ 2 ∷ 0 ∷ 2005 ∷ [])) (gives (refused.BadNode 3))
+    ∷ example (numbers (12 ∷ 0 ∷ 0 ∷ 0 ∷ 1 ∷ 0 ∷ 2005 ∷ [])) (gives (refused.BadRoot 3))
     ∷ []
 
 abbrev pub emitted_examples : List Example
 emitted_examples =
-    example emitted (Accepted (record { nodes = 9; quantifiers = 2; sets = 0; root = 8 }))
-    ∷ example (under 33) (Accepted (record { nodes = 2; quantifiers = 33; sets = 0; root = 1 }))
-    ∷ example (under 535) (gives 2 543)
-    ∷ example claim (gives 4 12)
-    ∷ example (numbers (12 ∷ 0 ∷ 0 ∷ 2 ∷ 0 ∷ 0 ∷ 0 ∷ 2 ∷ 0 ∷ 2005 ∷ [])) (gives 6 3)
+    example emitted (Ok (record { nodes = 9; quantifiers = 2; sets = 0; root = 8 }))
+    ∷ example (under 33) (Ok (record { nodes = 2; quantifiers = 33; sets = 0; root = 1 }))
+    ∷ example (under 535) (gives (refused.Count 543))
+    ∷ example claim (gives (refused.UnknownQuantifier 12))
+    ∷ example (numbers (12 ∷ 0 ∷ 0 ∷ 2 ∷ 0 ∷ 0 ∷ 0 ∷ 2 ∷ 0 ∷ 2005 ∷ [])) (gives (refused.BadNode 3))
     ∷ []
 
 abbrev AllRight : Dialect → List Example → Type 0
@@ -70,7 +72,7 @@ AllRight d [] = Unit {0}
 AllRight d (e ∷ es) = (check_as d e.words ≡ e.answer) × AllRight d es
 
 pub examples_right : AllRight SetClaims examples × AllRight Emitted emitted_examples
-unfolding check_as rest_of table_at parts_of shape_of node_tests node_refusal quantifier_tests shape_tests verdict refusal one_too_many binds_set bad_quantifier quantifier_taken root_good bad_node node_taken node_good field_good serves name_range child_sort count first_from first word_at range_of sort_of row_of number
+unfolding check_as rest_of table_at parts_of shape_of node_tests node_refusal quantifier_tests shape_tests verdict one_too_many binds_set bad_quantifier quantifier_taken root_good bad_node node_taken node_good field_good serves name_range child_sort count first_from first word_at range_of sort_of row_of number
 examples_right = (
   refl ▸ refl ▸ refl ▸ refl ▸ refl ▸ refl ▸ refl ▸ refl ▸ refl ▸ refl ▸ refl ▸ tt,
   refl ▸ refl ▸ refl ▸ refl ▸ refl ▸ tt,

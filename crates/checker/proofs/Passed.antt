@@ -1,4 +1,6 @@
 -- A table is accepted exactly where every test fails, and each failed test is a fact. Assumes nothing.
+use Rattle.std.proofs.Common.{Result, Ok, Err}
+use Rattle.checker.specs.declared.refusals.Refusal.{Refusal}
 use mathlib.Core.Path.{◌≡◌, refl, sym, ◌∙◌, ap}
 use mathlib.Core.Bool.{Bool, true, false, not, cond, ◌&&◌}
 use mathlib.Core.List.{List, [], ◌∷◌}
@@ -11,8 +13,6 @@ use lib.ListN.{length}
 use Rattle.std.specs.Prelude.{is_some}
 use Rattle.checker.specs.declared.Dialect.{Dialect}
 use Rattle.checker.specs.declared.Shape.{Shape}
-use Rattle.checker.specs.declared.Checked.{Checked}
-use Rattle.checker.specs.declared.Checked.TheVariants.{Accepted, Refused}
 use Rattle.checker.specs.Kinds.{range_of}
 use Rattle.checker.specs.Words.{word_at, root_in, nodes_in, quantifiers_in, mark}
 use Rattle.checker.specs.Search.{first, count}
@@ -49,13 +49,13 @@ abbrev Failed : List Test → Type 0
 Failed [] = Unit {0}
 Failed (t ∷ ts) = (t.holds ≡ false) × Failed ts
 
-passed : (ts : List Test) (ok : Checked) (s : Shape) → verdict ts ok ≡ Accepted s → Failed ts × (ok ≡ Accepted s)
+passed : (ts : List Test) (ok : Result Shape Refusal) (s : Shape) → verdict ts ok ≡ Ok s → Failed ts × (ok ≡ Ok s)
 unfolding verdict
 passed [] ok s e = (tt, e)
 passed (t ∷ ts) ok s e = go t.holds refl e (passed ts ok s)
   where
-    go : (b : Bool) → t.holds ≡ b → cond b (Refused t.gives) (verdict ts ok) ≡ Accepted s
-        → (verdict ts ok ≡ Accepted s → Failed ts × (ok ≡ Accepted s)) → ((t.holds ≡ false) × Failed ts) × (ok ≡ Accepted s)
+    go : (b : Bool) → t.holds ≡ b → cond b (Err t.gives) (verdict ts ok) ≡ Ok s
+        → (verdict ts ok ≡ Ok s → Failed ts × (ok ≡ Ok s)) → ((t.holds ≡ false) × Failed ts) × (ok ≡ Ok s)
     go true p f r = let z : ◌≡◌ {A = ℕ} 0 1 = cc in absurd (omega arith)
     go false p f r = ((p, (r f).0), (r f).1)
 
@@ -104,7 +104,7 @@ made_good d ws n q en eq f g =
       table = g;
     }
 
-pub accepted_good : (d : Dialect) (ws : List ℤ) (s : Shape) → check_as d ws ≡ Accepted s
+pub accepted_good : (d : Dialect) (ws : List ℤ) (s : Shape) → check_as d ws ≡ Ok s
     → Good d ws (nodes_in ws) (quantifiers_in ws) × (s ≡ shape_of (table_at ws (nodes_in ws) (quantifiers_in ws)))
 unfolding check_as rest_of parts_of verdict
 accepted_good d ws s e =
@@ -113,7 +113,7 @@ accepted_good d ws s e =
     let t : Table = table_at ws n q in
     let f = passed (shape_tests d (length ws) (eqb (word_at ws (length ws - 1)) mark) n q 3) _ s e in
     let g = passed (quantifier_tests d t (3 * n)) _ s f.1 in
-    let h = passed (node_tests d t 3 (length ws - 4)) (Accepted (shape_of t)) s g.1 in
+    let h = passed (node_tests d t 3 (length ws - 4)) (Ok (shape_of t)) s g.1 in
     (made_good d ws n q refl refl f.0 (good_table d t (3 * n) 3 (length ws - 4) g.0 h.0), cc h.1)
 
 -- ---- good, so accepted
@@ -130,7 +130,7 @@ under_limit limit t n j l h = go (binds_set t j) refl
         ne_eqb _ limit (λ f. omega arith)
     go false e = refl
 
-pub good_accepted : (d : Dialect) (ws : List ℤ) (n q : ℕ) → Good d ws n q → check_as d ws ≡ Accepted (shape_of (table_at ws n q))
+pub good_accepted : (d : Dialect) (ws : List ℤ) (n q : ℕ) → Good d ws n q → check_as d ws ≡ Ok (shape_of (table_at ws n q))
 unfolding table_at bad_quantifier quantifier_taken bad_node node_taken root_good verdict check_as rest_of shape_of
 good_accepted d ws n q g =
     let t : Table = table_at ws n q in

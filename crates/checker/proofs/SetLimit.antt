@@ -1,6 +1,10 @@
 -- The limit of sets is felt by no claim within it (#113): a table with no more set quantifiers than `limit` is answered as a checker with that
 -- limit answers it, be the limit of the day higher. Of the check of claims over sets the limit stands in test 5 alone; and the definitions of what
 -- an accepted claim becomes, `emission` and `ruling`, take any number of sets. Assumes nothing.
+use Rattle.std.proofs.Common.{Result, Ok}
+use Rattle.checker.specs.declared.Shape.{Shape}
+use Rattle.checker.specs.declared.refusals.Refusal.{Refusal}
+use Rattle.checker.specs.declared.refusals.Refusal.TheVariants as refused
 use mathlib.Core.Path.{◌≡◌, refl, sym, ◌∙◌, subst}
 use mathlib.Core.Bool.{Bool, true, false, ◌&&◌}
 use mathlib.Core.List.{List, [], ◌∷◌}
@@ -10,8 +14,6 @@ use lib.Dec.{ltb, eqb}
 use lib.IntN.{ℤ}
 use lib.ListN.{length}
 use borrow.Author.Tests.{le-ltb, ne_eqb}
-use Rattle.checker.specs.declared.Checked.{Checked}
-use Rattle.checker.specs.declared.Checked.TheVariants.{Accepted}
 use Rattle.checker.specs.declared.Dialect.TheVariants.{SetClaims}
 use Rattle.checker.specs.Search.{first, count}
 use Rattle.checker.specs.Words.{word_at, nodes_in, quantifiers_in, mark}
@@ -30,14 +32,14 @@ unfoldable pub sets_in : List ℤ → ℕ
 sets_in ws = count (binds_set (table_in ws)) (quantifiers_in ws)
 
 -- 1 to 7 in order, as `check_of` has them, but for the limit in test 5
-unfoldable pub check_up_to : ℕ → List ℤ → Checked
+unfoldable pub check_up_to : ℕ → List ℤ → Result Shape Refusal
 check_up_to limit ws =
     verdict (shape_tests SetClaims (length ws) (eqb (word_at ws (length ws - 1)) mark) n q 3)
     (verdict
-    (test (ltb (first (bad_quantifier SetClaims t) q) q) 4 (3 * n + first (bad_quantifier SetClaims t) q)
-    ∷ test (ltb (first (one_too_many limit t) q) q) 5 (3 * n + first (one_too_many limit t) q)
+    (test (ltb (first (bad_quantifier SetClaims t) q) q) (refused.UnknownQuantifier (3 * n + first (bad_quantifier SetClaims t) q))
+    ∷ test (ltb (first (one_too_many limit t) q) q) (refused.TooManySets (3 * n + first (one_too_many limit t) q))
     ∷ [])
-    (verdict (node_tests SetClaims t 3 (length ws - 4)) (Accepted (shape_of t))))
+    (verdict (node_tests SetClaims t 3 (length ws - 4)) (Ok (shape_of t))))
   where
     n : ℕ
     n = nodes_in ws

@@ -1,5 +1,5 @@
 -- What is believed of the claim table: the vocabulary (Claim, Kinds, Words, Sorts), the meaning (Meaning), and what is refused (Search, Dialect, Table,
--- Check) or accepted (Accepted).
+-- Check, Refusals) or accepted (Accepted).
 pub mod Claim
 pub mod Kinds
 pub mod Words
@@ -9,4 +9,5 @@ pub mod Search
 pub mod Dialect
 pub mod Table
 pub mod Check
+pub mod Refusals
 pub mod Accepted

@@ -4,13 +4,16 @@
 ghost use Rattle.std.specs.Prelude.{◌≡◌, [], ◌+◌, ◌*◌, ◌-◌, length};
 ghost use Rattle.checker.specs.Kinds.{number};
 ghost use Rattle.checker.specs.Words.{word_at};
-ghost use Rattle.checker.specs.Check.{check_as, check_of, table_at, parts_of, refusal, Room};
+ghost use Rattle.checker.specs.Check.{check_as, check_of, table_at, parts_of, Room};
 
 mod dialects; // the limits of each dialect, and the kinds that it takes
 mod kinds; // what a kind of node or quantifier is and requires
 pub mod names; // the limits by name
 mod nodes; // the check of a node
 mod quantifiers; // the checks of the quantifiers
+mod refusals; // what a refusal says
+
+pub use refusals::Refusal;
 
 const MARK: usize = 2005;
 
@@ -24,12 +27,6 @@ pub enum Dialect {
     Emitted,
 }
 
-#[derive(Clone, Copy)]
-pub struct Refusal {
-    pub number: usize,
-    pub place: usize,
-}
-
 // What the layers above need of an accepted table.
 #[derive(Clone, Copy)]
 pub struct Shape {
@@ -37,12 +34,6 @@ pub struct Shape {
     pub quantifiers: usize,
     pub sets: usize,
     pub root: usize,
-}
-
-#[derive(Clone, Copy)]
-pub enum Checked {
-    Accepted(Shape),
-    Refused(Refusal),
 }
 
 // What a node is.
@@ -94,34 +85,33 @@ pub fn word(words: &[i32], at: usize) -> usize
     0
 }
 
-pub fn refused(number: usize, place: usize) -> Checked
-    ensures { result ≡ Checked.Refused (refusal number place) }
-{
-    Checked::Refused(Refusal { number, place })
-}
-
 // Refusals 4 to 7, of a table whose counts and length are right.
-fn check_parts(words: &[i32], dialect: Dialect, nodes: usize, quantifiers: usize) -> Checked
+fn check_parts(
+    words: &[i32],
+    dialect: Dialect,
+    nodes: usize,
+    quantifiers: usize,
+) -> Result<Shape, Refusal>
     requires { Room words.now nodes quantifiers }
     ensures { result ≡ parts_of dialect (table_at words.now nodes quantifiers) (3 * nodes) 3 (length words.now - 4) [] }
 {
     let bad = quantifiers::first_bad_quantifier(words, dialect, nodes, quantifiers);
     if bad < quantifiers {
-        return refused(4, 3 * nodes + bad);
+        return Err(Refusal::UnknownQuantifier(3 * nodes + bad));
     }
     let sets = quantifiers::sets_of(words, nodes, quantifiers, dialects::most_sets(dialect));
     let over = sets.over;
     if over < quantifiers {
-        return refused(5, 3 * nodes + over);
+        return Err(Refusal::TooManySets(3 * nodes + over));
     }
     let broken = nodes::first_bad_node(words, dialect, nodes, quantifiers);
     if broken < nodes {
-        return refused(6, 3 * broken);
+        return Err(Refusal::BadNode(3 * broken));
     }
     if !nodes::root_good(words, nodes, quantifiers) {
-        return refused(7, words.len() - 4);
+        return Err(Refusal::BadRoot(words.len() - 4));
     }
-    Checked::Accepted(Shape {
+    Ok(Shape {
         nodes,
         quantifiers,
         sets: sets.seen,
@@ -129,34 +119,34 @@ fn check_parts(words: &[i32], dialect: Dialect, nodes: usize, quantifiers: usize
     })
 }
 
-pub fn check_as(words: &[i32], dialect: Dialect) -> Checked
+pub fn check_as(words: &[i32], dialect: Dialect) -> Result<Shape, Refusal>
     ensures { result ≡ check_as dialect words.now }
 {
     let length = words.len();
     if length < 4 {
-        return refused(1, 0);
+        return Err(Refusal::Unmarked);
     }
     if word(words, length - 1) != MARK {
-        return refused(1, 0);
+        return Err(Refusal::Unmarked);
     }
     let nodes = word(words, length - 3);
     if nodes < 1 {
-        return refused(2, length - 3);
+        return Err(Refusal::Count(length - 3));
     }
     if dialects::most_nodes(dialect) < nodes {
-        return refused(2, length - 3);
+        return Err(Refusal::Count(length - 3));
     }
     let quantifiers = word(words, length - 2);
     if dialects::most_quantifiers(dialect) < quantifiers {
-        return refused(2, length - 2);
+        return Err(Refusal::Count(length - 2));
     }
     if length != 3 * nodes + quantifiers + 4 {
-        return refused(3, 0);
+        return Err(Refusal::Length);
     }
     check_parts(words, dialect, nodes, quantifiers)
 }
 
-pub fn check(words: &[i32]) -> Checked
+pub fn check(words: &[i32]) -> Result<Shape, Refusal>
     ensures { result ≡ check_of words.now }
 {
     check_as(words, Dialect::SetClaims)

@@ -1,4 +1,6 @@
 -- What is known of a claim that the decider admits: the checker accepts it, and none of the tests 9 to 11 holds. Assumes nothing.
+use Rattle.std.proofs.Common.{Result, Ok, Err}
+use Rattle.checker.specs.declared.refusals.Refusal.TheVariants as refused
 use mathlib.Core.Path.{◌≡◌, refl}
 use mathlib.Core.Bool.{Bool, true, false, cond}
 use mathlib.Core.List.{List, [], ◌∷◌}
@@ -7,20 +9,18 @@ use native.Mathlib.Omega.{arith}
 use borrow.Author.Tests.{ltb-false, not-false, lt-ltb, le-ltb}
 use lib.Dec.{T}
 use lib.ListN.{length, get_or}
-use Rattle.checker.specs.declared.Refusal.{Refusal}
+use Rattle.checker.specs.declared.refusals.Refusal.{Refusal}
 use Rattle.checker.specs.declared.Shape.{Shape}
-use Rattle.checker.specs.declared.Checked.{Checked}
-use Rattle.checker.specs.declared.Checked.TheVariants.{Accepted, Refused}
 use Rattle.checker.specs.Claim.{Quantifier, int_q, Claim}
 use Rattle.checker.specs.Sorts.{is_set_q}
-use Rattle.checker.specs.Check.{refusal, Test, verdict}
+use Rattle.checker.specs.Check.{Test, verdict}
 use Rattle.checker.proofs.Search.{first_none}
 use Rattle.matrix.specs.Bound.{first_over}
 use Rattle.decider.specs.Plan.{only_sets}
 use Rattle.decider.specs.Decision.{max_size, binds_number, first_number, decider_tests, admission}
 
 -- Where a test holds, nothing is accepted.
-refuses : (b : Bool) (r : Refusal) (rest : Checked) (x : Shape) → cond b (Refused r) rest ≡ Accepted x → (b ≡ false) × (rest ≡ Accepted x)
+refuses : (b : Bool) (r : Refusal) (rest : Result Shape Refusal) (x : Shape) → cond b (Err r) rest ≡ Ok x → (b ≡ false) × (rest ≡ Ok x)
 refuses true r rest x e = let z : ◌≡◌ {A = ℕ} 0 1 = cc in absurd (omega arith)
 refuses false r rest x e = (refl, e)
 
@@ -28,7 +28,7 @@ abbrev Passed : List Test → Type 0
 Passed [] = Unit {0}
 Passed (t ∷ ts) = (t.holds ≡ false) × Passed ts
 
-passed : (ts : List Test) (ok : Checked) (x : Shape) → verdict ts ok ≡ Accepted x → Passed ts × (ok ≡ Accepted x)
+passed : (ts : List Test) (ok : Result Shape Refusal) (x : Shape) → verdict ts ok ≡ Ok x → Passed ts × (ok ≡ Ok x)
 unfolding verdict
 passed [] ok x e = (tt, e)
 passed (t ∷ ts) ok x e =
@@ -41,8 +41,8 @@ unfolding only_sets
 only_sets_lem [] h = tt
 only_sets_lem (q ∷ qs) h = rw (h 0 (omega arith)) (only_sets_lem qs (λ i l. h (suc i) (omega arith)))
 
-pub record Admitted (N : ℕ) (c : Claim) (k : Checked) (x : Shape) : Type 0 where
-  pub checked : k ≡ Accepted x
+pub record Admitted (N : ℕ) (c : Claim) (k : Result Shape Refusal) (x : Shape) : Type 0 where
+  pub checked : k ≡ Ok x
   pub small : N ≤ max_size
   pub sets : T (only_sets c.quantifiers)
   pub bounded : length c.nodes ≤ first_over N c
@@ -52,10 +52,10 @@ module _ (N : ℕ) (c : Claim) where
   unfolding decider_tests
   tests_passed p = (ltb-false max_size N p.0, ltb-false (first_number c) (length c.quantifiers) p.1.0, ltb-false (first_over N c) (length c.nodes) p.1.1.0)
 
-  pub admitted : (k : Checked) (x : Shape) → admission N c k ≡ Accepted x → Admitted N c k x
+  pub admitted : (k : Result Shape Refusal) (x : Shape) → admission N c k ≡ Ok x → Admitted N c k x
   unfolding admission binds_number
-  admitted (Accepted s) x e =
-      let p = passed (decider_tests N c) (Accepted s) x e in
+  admitted (Ok s) x e =
+      let p = passed (decider_tests N c) (Ok s) x e in
       let t = tests_passed p.0 in
       record {
         checked = p.1;
@@ -64,22 +64,22 @@ module _ (N : ℕ) (c : Claim) where
             (λ i l. not-false (is_set_q (get_or c.quantifiers i (int_q true))) (first_none (binds_number c) (length c.quantifiers) t.1 i l));
         bounded = t.2;
       }
-  admitted (Refused r) x e = let z : ◌≡◌ {A = ℕ} 0 1 = cc in absurd (omega arith)
+  admitted (Err r) x e = let z : ◌≡◌ {A = ℕ} 0 1 = cc in absurd (omega arith)
 
 -- ---- the ways out of the tests
 
-module _ (N : ℕ) (c : Claim) (ok : Checked) where
-  pub at_9 : max_size < N → Refused (refusal 9 0) ≡ verdict (decider_tests N c) ok
+module _ (N : ℕ) (c : Claim) (ok : Result Shape Refusal) where
+  pub at_9 : max_size < N → Err refused.LargeSize ≡ verdict (decider_tests N c) ok
   unfolding verdict decider_tests
   at_9 h = rw (lt-ltb max_size N h)
 
   module _ (small : N ≤ max_size) where
-    pub at_10 : first_number c < length c.quantifiers → Refused (refusal 10 (3 * length c.nodes + first_number c)) ≡ verdict (decider_tests N c) ok
+    pub at_10 : first_number c < length c.quantifiers → Err (refused.OverNumbers (3 * length c.nodes + first_number c)) ≡ verdict (decider_tests N c) ok
     unfolding verdict decider_tests
     at_10 h = rw (le-ltb max_size N small, lt-ltb (first_number c) (length c.quantifiers) h)
 
     module _ (sets : length c.quantifiers ≤ first_number c) where
-      pub at_11 : first_over N c < length c.nodes → Refused (refusal 11 (3 * first_over N c)) ≡ verdict (decider_tests N c) ok
+      pub at_11 : first_over N c < length c.nodes → Err (refused.LargeBound (3 * first_over N c)) ≡ verdict (decider_tests N c) ok
       unfolding verdict decider_tests
       at_11 h = rw (le-ltb max_size N small, le-ltb (first_number c) (length c.quantifiers) sets, lt-ltb (first_over N c) (length c.nodes) h)
 

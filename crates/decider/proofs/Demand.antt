@@ -1,5 +1,7 @@
 -- What the decider's answers say of sets: true and false are the claim's truth at that size, and, for a claim without number terms and
 -- comparisons, at every size from 2^S up (demand 3). Assumes nothing.
+use Rattle.std.proofs.Common.{Result, Ok, Err}
+use Rattle.checker.specs.declared.refusals.Refusal.{Refusal}
 use mathlib.Core.Path.{◌≡◌, refl}
 use mathlib.Core.Logic.{◌↔◌}
 use mathlib.Core.Bool.{Bool, true, false, cond, false≢true}
@@ -9,8 +11,6 @@ use native.Mathlib.Omega.{arith}
 use lib.Dec.{leb}
 use lib.IntN.{ℤ}
 use Rattle.checker.specs.declared.Shape.{Shape}
-use Rattle.checker.specs.declared.Checked.{Checked}
-use Rattle.checker.specs.declared.Checked.TheVariants as checked
 use Rattle.checker.specs.Words.{claim_of}
 use Rattle.checker.specs.Sorts.{sets}
 use Rattle.checker.specs.Meaning.{TrueAt}
@@ -25,24 +25,24 @@ use Rattle.decider.proofs.Admitted.{admitted}
 use Rattle.decider.proofs.Truth.{rule_true}
 use Rattle.decider.proofs.Threshold.{plain_threshold}
 
-tells : Bool → ℕ → Decision
-tells true s = True s
-tells false s = False s
+tells : Bool → ℕ → Result Decision Refusal
+tells true s = Ok (True s)
+tells false s = Ok (False s)
 
 -- A truth was ruled within the allowance, of a claim that was admitted.
-answered : (r : Ruling) (a : ℕ) (k : Checked) (t : Bool) (s : ℕ) → decided r a k ≡ tells t s → (r.truth ≡ t) × ((x : Shape) × (k ≡ checked.Accepted x))
+answered : (r : Ruling) (a : ℕ) (k : Result Shape Refusal) (t : Bool) (s : ℕ) → decided r a k ≡ tells t s → (r.truth ≡ t) × ((x : Shape) × (k ≡ Ok x))
 unfolding decided outcome_of tells
-answered r a (checked.Accepted x) t s e = (go (leb r.steps a) r.truth t e, (x, refl))
+answered r a (Ok x) t s e = (go (leb r.steps a) r.truth t e, (x, refl))
   where
-    go : (b u t : Bool) → cond b (cond u (True r.steps) (False r.steps)) (Spent a) ≡ tells t s → u ≡ t
+    go : (b u t : Bool) → Ok (cond b (cond u (True r.steps) (False r.steps)) (Spent a)) ≡ tells t s → u ≡ t
     go true true true e = refl
     go true true false e = let z : ◌≡◌ {A = ℕ} 0 1 = cc in absurd (omega arith)
     go true false true e = let z : ◌≡◌ {A = ℕ} 0 1 = cc in absurd (omega arith)
     go true false false e = refl
     go false u true e = let z : ◌≡◌ {A = ℕ} 0 1 = cc in absurd (omega arith)
     go false u false e = let z : ◌≡◌ {A = ℕ} 0 1 = cc in absurd (omega arith)
-answered r a (checked.Refused x) true s e = let z : ◌≡◌ {A = ℕ} 0 1 = cc in absurd (omega arith)
-answered r a (checked.Refused x) false s e = let z : ◌≡◌ {A = ℕ} 0 1 = cc in absurd (omega arith)
+answered r a (Err x) true s e = let z : ◌≡◌ {A = ℕ} 0 1 = cc in absurd (omega arith)
+answered r a (Err x) false s e = let z : ◌≡◌ {A = ℕ} 0 1 = cc in absurd (omega arith)
 
 -- ---- the answer is the truth
 
@@ -53,18 +53,18 @@ module _ (ws : List ℤ) (N allowance steps : ℕ) where
       let a = answered (ruling N (claim_of ws)) allowance (admission N (claim_of ws) (check_of ws)) t steps e in
       rw a.0 at (rule_true N (claim_of ws) (admitted N (claim_of ws) (check_of ws) a.1.0 a.1.1).sets)
 
-  pub true_is_true : decision_of ws N allowance ≡ True steps → TrueAt N (claim_of ws)
+  pub true_is_true : decision_of ws N allowance ≡ Ok (True steps) → TrueAt N (claim_of ws)
   unfolding tells
   true_is_true e = (said_truth true e).0 refl
 
-  pub false_is_false : decision_of ws N allowance ≡ False steps → TrueAt N (claim_of ws) → ⊥
+  pub false_is_false : decision_of ws N allowance ≡ Ok (False steps) → TrueAt N (claim_of ws) → ⊥
   unfolding tells
   false_is_false e t = false≢true ((said_truth false e).1 t)
 
 -- Demand 3: for a claim without number terms and comparisons, the answer at one size of at least 2^S is that at every such size.
 module _ (ws : List ℤ) (N allowance steps : ℕ) (plain : no_numbers (claim_of ws).nodes ≡ true) (large : 2 ^ sets (claim_of ws).quantifiers ≤ N) where
-  pub demand_3_true : decision_of ws N allowance ≡ True steps → (M : ℕ) → 2 ^ sets (claim_of ws).quantifiers ≤ M → TrueAt M (claim_of ws)
+  pub demand_3_true : decision_of ws N allowance ≡ Ok (True steps) → (M : ℕ) → 2 ^ sets (claim_of ws).quantifiers ≤ M → TrueAt M (claim_of ws)
   demand_3_true e M m = (plain_threshold (claim_of ws) plain N M large m).0 (true_is_true ws N allowance steps e)
 
-  pub demand_3_false : decision_of ws N allowance ≡ False steps → (M : ℕ) → 2 ^ sets (claim_of ws).quantifiers ≤ M → TrueAt M (claim_of ws) → ⊥
+  pub demand_3_false : decision_of ws N allowance ≡ Ok (False steps) → (M : ℕ) → 2 ^ sets (claim_of ws).quantifiers ≤ M → TrueAt M (claim_of ws) → ⊥
   demand_3_false e M m t = false_is_false ws N allowance steps e ((plain_threshold (claim_of ws) plain N M large m).1 t)

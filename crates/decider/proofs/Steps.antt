@@ -1,4 +1,5 @@
 -- Every ruling takes a step, so an allowance of 0 is always spent. Assumes nothing.
+use Rattle.std.proofs.Common.{ap, Ok}
 use mathlib.Core.Path.{◌≡◌}
 use mathlib.Core.List.{List, [], ◌∷◌}
 use Prim.Native.Nat.{ℕ, zero, suc, ◌+◌, ◌-◌, ◌≤◌, ◌<◌, ◌^◌}
@@ -6,7 +7,6 @@ use native.Mathlib.Omega.{arith}
 use borrow.Author.Tests.{lt-leb}
 use lib.IntN.{ℤ}
 use Rattle.checker.specs.declared.Shape.{Shape}
-use Rattle.checker.specs.declared.Checked.TheVariants.{Accepted}
 use Rattle.checker.specs.Claim.{Claim}
 use Rattle.checker.specs.Words.{claim_of}
 use Rattle.checker.specs.Sorts.{sets}
@@ -34,6 +34,6 @@ unfolding outcome_of
 spent_at_once r h = rw (lt-leb r.steps 0 (omega arith))
 
 -- An allowance of 0 is spent, whatever the claim: if it is not refused.
-pub nothing_allowed : (ws : List ℤ) (N : ℕ) (s : Shape) → admission N (claim_of ws) (check_of ws) ≡ Accepted s → decision_of ws N 0 ≡ Spent 0
+pub nothing_allowed : (ws : List ℤ) (N : ℕ) (s : Shape) → admission N (claim_of ws) (check_of ws) ≡ Ok s → decision_of ws N 0 ≡ Ok (Spent 0)
 unfolding decision_of decided
-nothing_allowed ws N s e = rw e (spent_at_once (ruling N (claim_of ws)) (ruling_steps N (claim_of ws)))
+nothing_allowed ws N s e = rw e (ap Ok (spent_at_once (ruling N (claim_of ws)) (ruling_steps N (claim_of ws))))

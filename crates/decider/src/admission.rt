@@ -1,17 +1,16 @@
 // What the decider takes: refusals 9 to 11, after those of the checker.
 ghost use Rattle.std.specs.Prelude.{◌≡◌, ◌<◌};
-ghost use Rattle.checker.specs.declared.Checked.TheVariants.{Accepted};
 ghost use Rattle.checker.specs.Words.{claim_of};
 ghost use Rattle.checker.specs.Check.{verdict, check_of};
 ghost use Rattle.decider.specs.Decision.{first_number, decider_tests, admission};
 
-use checker::{Checked, Shape};
+use checker::{Refusal, Shape};
 
 const MAX_SIZE: u32 = 4096;
 
 // The first quantifier over numbers, or how many quantifiers there are.
 fn first_number(words: &[i32], shape: Shape) -> usize
-    requires { check_of words.now ≡ Accepted shape }
+    requires { check_of words.now ≡ Ok shape }
     ensures { result ≡ first_number (claim_of words.now) }
 {
     let quantifiers = shape.quantifiers;
@@ -26,33 +25,30 @@ fn first_number(words: &[i32], shape: Shape) -> usize
 }
 
 // Refusals 9 to 11, of a claim that the checker accepts.
-fn admit_claim(words: &[i32], size: u32, shape: Shape) -> Checked
-    requires { check_of words.now ≡ Accepted shape }
-    ensures { result ≡ verdict (decider_tests size (claim_of words.now)) (Accepted shape) }
+fn admit_claim(words: &[i32], size: u32, shape: Shape) -> Result<Shape, Refusal>
+    requires { check_of words.now ≡ Ok shape }
+    ensures { result ≡ verdict (decider_tests size (claim_of words.now)) (Ok shape) }
 {
     if MAX_SIZE < size {
-        return checker::refused(9, 0);
+        return Err(Refusal::LargeSize);
     }
     let nodes = shape.nodes;
     let quantifiers = shape.quantifiers;
     let number = first_number(words, shape);
     if number < quantifiers {
-        return checker::refused(10, 3 * nodes + number);
+        return Err(Refusal::OverNumbers(3 * nodes + number));
     }
     let over = matrix::bound::first_over(words, shape, size);
     if over < nodes {
-        return checker::refused(11, 3 * over);
+        return Err(Refusal::LargeBound(3 * over));
     }
-    Checked::Accepted(shape)
+    Ok(shape)
 }
 
 // Refusals 1 to 7, then 9 to 11.
-pub fn admit(words: &[i32], size: u32) -> Checked
+pub fn admit(words: &[i32], size: u32) -> Result<Shape, Refusal>
     ensures { result ≡ admission size (claim_of words.now) (check_of words.now) }
 {
-    let checked = checker::check(words);
-    match checked {
-        Checked::Accepted(shape) => admit_claim(words, size, shape),
-        Checked::Refused(refusal) => Checked::Refused(refusal),
-    }
+    let shape = checker::check(words)?;
+    admit_claim(words, size, shape)
 }

@@ -1,6 +1,5 @@
 // The kind of each split's quantifier, filled once before the search.
 ghost use Rattle.std.specs.Prelude.{◌≡◌, ℕ, ◌^◌, ◌<◌, ◌≤◌, T, length, take, get_or};
-ghost use Rattle.checker.specs.declared.Checked.TheVariants.{Accepted};
 ghost use Rattle.checker.specs.Words.{claim_of};
 ghost use Rattle.checker.specs.Sorts.{sets};
 ghost use Rattle.checker.specs.Check.{check_of};
@@ -24,7 +23,7 @@ fn fill(kinds: &mut [u8], from: usize, to: usize, kind: u8)
 
 // The first set splits region 1, the next one regions 2 and 3, and so on. How many regions there are then.
 pub fn fill_kinds(words: &[i32], shape: Shape, kinds: &mut [u8]) -> usize
-    requires words_value { check_of words.now ≡ Accepted shape }
+    requires words_value { check_of words.now ≡ Ok shape }
     requires t { T (only_sets (claim_of words.now).quantifiers) }
     requires quantifiers_in_bounds { 2 ^ shape.quantifiers ≤ length kinds.old }
     ensures value { result ≡ 2 ^ sets (claim_of words.now).quantifiers }

@@ -3,7 +3,6 @@
 #![tactic(auto)]
 
 ghost use Rattle.std.specs.Prelude.{◌≡◌, ◌+◌, ◌^◌, ◌<◌, ◌≤◌, length};
-ghost use Rattle.checker.specs.declared.Checked.TheVariants.{Accepted};
 ghost use Rattle.checker.specs.Words.{claim_of};
 ghost use Rattle.checker.specs.Check.{check_of};
 ghost use Rattle.decider.specs.Plan.{ruling};
@@ -13,7 +12,7 @@ ghost use Rattle.region.specs.Pattern.{Roomy};
 ghost use Rattle.decider.specs.Standing.{Frame};
 
 use allowance::{Allowance, Reply};
-use checker::{Checked, Shape};
+use checker::{Refusal, Shape};
 
 mod admission; // refusals 9 to 11
 mod allowance; // steps, paid for one at a time
@@ -21,13 +20,12 @@ mod kinds; // which quantifier a split belongs to
 mod prepare; // what is settled before a search
 mod search; // the splits, in order
 
-// True or false with the steps taken; or the allowance is spent, all of it; or a refusal.
-#[derive(Drop)]
+// True or false with the steps taken; or the allowance is spent, all of it.
+#[derive(Clone, Copy, PartialEq, Eq)]
 pub enum Decision {
     True(u64),
     False(u64),
     Spent(u64),
-    Refused(checker::Refusal),
 }
 
 // What a reply says, with the steps taken.
@@ -59,7 +57,7 @@ fn rule_in(
     values: &mut [i32],
     counts: &mut [u32],
 ) -> Reply
-    requires words_value { admission size (claim_of words.now) (check_of words.now) ≡ Accepted shape }
+    requires words_value { admission size (claim_of words.now) (check_of words.now) ≡ Ok shape }
     requires taken_bound { a.left + a.taken < 2 ^ 64 }
     requires roomy { Roomy shape patterns.old × Frame shape (length order.old) (length upto.old) (length kinds.old) (length values.old) (length counts.old) }
     ensures { result ≡ reply (ruling size (claim_of words.now)) a }
@@ -85,7 +83,7 @@ fn rule_in(
 
 // The same in arrays for up to six sets: clearing them is a good part of a short call.
 fn rule_narrow(words: &[i32], size: u32, shape: Shape, a: Allowance) -> Reply
-    requires words_value { admission size (claim_of words.now) (check_of words.now) ≡ Accepted shape }
+    requires words_value { admission size (claim_of words.now) (check_of words.now) ≡ Ok shape }
     requires taken_bound { a.left + a.taken < 2 ^ 64 }
     requires sets_bound { shape.sets ≤ 6 }
     ensures { result ≡ reply (ruling size (claim_of words.now)) a }
@@ -112,7 +110,7 @@ fn rule_narrow(words: &[i32], size: u32, shape: Shape, a: Allowance) -> Reply
 
 // And for all that a claim may have.
 fn rule_wide(words: &[i32], size: u32, shape: Shape, a: Allowance) -> Reply
-    requires words_value { admission size (claim_of words.now) (check_of words.now) ≡ Accepted shape }
+    requires words_value { admission size (claim_of words.now) (check_of words.now) ≡ Ok shape }
     requires taken_bound { a.left + a.taken < 2 ^ 64 }
     ensures { result ≡ reply (ruling size (claim_of words.now)) a }
 {
@@ -137,7 +135,7 @@ fn rule_wide(words: &[i32], size: u32, shape: Shape, a: Allowance) -> Reply
 }
 
 fn rule_on(words: &[i32], size: u32, shape: Shape, a: Allowance) -> Reply
-    requires words_value { admission size (claim_of words.now) (check_of words.now) ≡ Accepted shape }
+    requires words_value { admission size (claim_of words.now) (check_of words.now) ≡ Ok shape }
     requires taken_bound { a.left + a.taken < 2 ^ 64 }
     ensures { result ≡ reply (ruling size (claim_of words.now)) a }
 {
@@ -148,18 +146,13 @@ fn rule_on(words: &[i32], size: u32, shape: Shape, a: Allowance) -> Reply
 }
 
 // Whether the claim is true at size n, in at most `allowance` evaluations of its matrix.
-pub fn decide(words: &[i32], n: u32, allowance: u64) -> Decision
+pub fn decide(words: &[i32], n: u32, allowance: u64) -> Result<Decision, Refusal>
     ensures { result ≡ decision_of words.now n allowance }
 {
-    let admitted = admission::admit(words, n);
-    match admitted {
-        Checked::Accepted(shape) => {
-            let a = Allowance {
-                left: allowance,
-                taken: 0,
-            };
-            decision_of(rule_on(words, n, shape, a))
-        }
-        Checked::Refused(refusal) => Decision::Refused(refusal),
-    }
+    let shape = admission::admit(words, n)?;
+    let a = Allowance {
+        left: allowance,
+        taken: 0,
+    };
+    Ok(decision_of(rule_on(words, n, shape, a)))
 }

@@ -1,6 +1,5 @@
 // What a claim settles before a search: its patterns, the order of its nodes, and the kind of each split.
 ghost use Rattle.std.specs.Prelude.{◌≡◌, ◌^◌, ◌<◌, ◌≤◌, T, length};
-ghost use Rattle.checker.specs.declared.Checked.TheVariants.{Accepted};
 ghost use Rattle.checker.specs.Words.{claim_of};
 ghost use Rattle.checker.specs.Check.{check_of};
 ghost use Rattle.region.specs.Pattern.{Roomy};
@@ -24,7 +23,7 @@ pub fn prepare(
     upto: &mut [usize],
     kinds: &mut [u8],
 ) -> Arrangement
-    requires words_value { (check_of words.now ≡ Accepted shape) × T (only_sets (claim_of words.now).quantifiers) × Roomy shape patterns.old }
+    requires words_value { (check_of words.now ≡ Ok shape) × T (only_sets (claim_of words.now).quantifiers) × Roomy shape patterns.old }
     requires nodes_in_bounds { (shape.nodes ≤ length order.old) × (2 ^ shape.sets < length upto.old) × (2 ^ shape.sets ≤ length kinds.old) }
     ensures { Arranged (claim_of words.now) patterns.new order.new upto.new kinds.new result.rows result.regions }
 {

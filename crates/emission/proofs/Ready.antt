@@ -1,5 +1,6 @@
 -- What is known before node i: its kind, its node and that it fits.
 -- Assumes nothing.
+use Rattle.std.proofs.Common.{Ok}
 use mathlib.Core.Path.{◌≡◌, ap, ◌∙◌}
 use mathlib.Core.List.{List}
 use Prim.Native.Nat.{ℕ, ◌+◌, ◌*◌, ◌<◌}
@@ -11,7 +12,6 @@ use Rattle.checker.specs.Claim.{Node, unknown}
 use Rattle.checker.specs.Kinds.{node_of, sort_table, entry_in}
 use Rattle.checker.specs.Words.{word, word_at, node_at, claim_of}
 use Rattle.checker.specs.Sorts.{Fits}
-use Rattle.checker.specs.declared.Checked.TheVariants.{Accepted}
 use Rattle.checker.specs.Check.{check_of}
 use Rattle.region.specs.Pattern.{Roomy}
 use Rattle.emission.specs.Runs.{Patterned, Ready}
@@ -48,7 +48,7 @@ module _ {ws : List ℤ} {shape : Shape} {plan : List ℕ} {i : ℕ} (ready : Re
   kind_some e = fitting unknown (of_its_kind 0 e)
 
 -- before the first node nothing is asked of the table but its room
-pub patterned_start : (ws : List ℤ) {shape : Shape} {patterns : List ℕ} → check_of ws ≡ Accepted shape → Roomy shape patterns → Patterned (claim_of ws) patterns 0
+pub patterned_start : (ws : List ℤ) {shape : Shape} {patterns : List ℕ} → check_of ws ≡ Ok shape → Roomy shape patterns → Patterned (claim_of ws) patterns 0
 patterned_start ws {shape} {patterns} accepted roomy =
     let claim = sound ws shape accepted in
     patterned_none (claim_of ws) patterns (omega (arith, claim.nodes, roomy.long))

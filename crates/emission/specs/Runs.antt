@@ -1,9 +1,8 @@
 -- The emission as the code goes through it, node by node: what stands after the first i nodes, the run of node i, and what the code keeps of the
 -- nodes before it. Assumes nothing.
-use Rattle.std.specs.Prelude.{◌≡◌, ◌&&◌, List, [], ℕ, ◌<◌, ◌≤◌, ltb, ℤ, length, get_or, take, Some}
+use Rattle.std.specs.Prelude.{◌≡◌, ◌&&◌, List, [], ℕ, ◌<◌, ◌≤◌, ltb, ℤ, length, get_or, take, Some, Ok}
 use Rattle.checker.specs.declared.Shape.{Shape}
 use Rattle.checker.specs.declared.Sort.TheVariants.{ASet}
-use Rattle.checker.specs.declared.Checked.TheVariants.{Accepted}
 use Rattle.checker.specs.Claim.{Node, unknown, Claim}
 use Rattle.checker.specs.Words.{claim_of}
 use Rattle.checker.specs.Sorts.{sort}
@@ -39,7 +38,7 @@ pub record Standing (c : Claim) (stands : List ℕ) (i : ℕ) : Type 0 where
 
 -- What is asked before node i.
 pub record Ready (ws : List ℤ) (shape : Shape) (plan : List ℕ) (i : ℕ) : Type 0 where
-  pub accepted : check_of ws ≡ Accepted shape
+  pub accepted : check_of ws ≡ Ok shape
   pub planned : Planned plan (claim_of ws).quantifiers
   pub here : i < shape.nodes
 

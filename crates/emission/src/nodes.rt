@@ -8,7 +8,7 @@ ghost use Rattle.emission.specs.Plan.{Planned};
 ghost use Rattle.emission.specs.Write.{Room, WroteNodes};
 
 use crate::Body;
-use checker::{Checked, Shape};
+use checker::Shape;
 
 // The number before n, 0 for 0.
 fn preceding(n: usize) -> usize
@@ -22,7 +22,7 @@ fn preceding(n: usize) -> usize
 
 // How many nodes the runs take, and the node that stands for the root.
 pub fn count(words: &[i32], shape: Shape, plan: &[usize], patterns: &mut [u64]) -> Body
-    requires words_value { (check_of words.now ≡ Checked.Accepted shape) × Planned plan.now (claim_of words.now).quantifiers }
+    requires words_value { (check_of words.now ≡ Ok shape) × Planned plan.now (claim_of words.now).quantifiers }
     requires roomy { Roomy shape patterns.old }
     ensures nodes_value { (result.nodes ≡ length (body (claim_of words.now)).nodes) × (result.root ≡ (body (claim_of words.now)).root) }
     ensures nodes_bound { result.nodes ≤ (4 * pattern_bits + 3) * max_nodes }
@@ -53,7 +53,7 @@ pub fn put_all(
     patterns: &mut [u64],
     out: &mut [i32],
 ) -> usize
-    requires words_value { (check_of words.now ≡ Checked.Accepted shape) × Planned plan.now (claim_of words.now).quantifiers }
+    requires words_value { (check_of words.now ≡ Ok shape) × Planned plan.now (claim_of words.now).quantifiers }
     requires roomy { Roomy shape patterns.old }
     requires room { Room out.old 0 (length (body (claim_of words.now)).nodes) }
     ensures { WroteNodes out.old 0 (body (claim_of words.now)).nodes out.new result }

@@ -10,7 +10,7 @@ ghost use Rattle.emission.specs.Write.{max_number};
 
 use crate::Frame;
 use crate::kinds::{ALL_SETS, SOME_SET};
-use checker::{Checked, Shape};
+use checker::Shape;
 
 // The frame inside one more quantifier.
 fn inside(frame: Frame, kind: usize) -> Frame
@@ -58,7 +58,7 @@ pub fn frame_at(plan: &[usize], j: usize) -> Frame
 
 // Notes what the quantifiers outside each quantifier give, and then what all of them give.
 pub fn make(words: &[i32], shape: Shape, plan: &mut [usize])
-    requires { (check_of words.now ≡ Checked.Accepted shape) × (3 * shape.quantifiers + 3 ≤ length plan.old) }
+    requires { (check_of words.now ≡ Ok shape) × (3 * shape.quantifiers + 3 ≤ length plan.old) }
     ensures planned { Planned plan.new (claim_of words.now).quantifiers }
     ensures plan_unchanged { drop (3 * shape.quantifiers + 3) plan.new ≡ drop (3 * shape.quantifiers + 3) plan.old }
 {

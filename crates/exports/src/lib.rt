@@ -7,9 +7,8 @@ ghost use Rattle.reducer.specs.Reduced.{reduced_of, out_after};
 ghost use Rattle.decider.specs.Decision.{decision_of};
 ghost use Rattle.exports.specs.Rows.{refused_row, value_row, check_row, reduce_row, decide_row, with_row};
 
-use checker::{Checked, Refusal};
+use checker::Refusal;
 use decider::Decision;
-use reducer::Reduced;
 
 // As many of the values as there is room for.
 fn put_row(values: &[u64], row: &mut [u64])
@@ -25,8 +24,8 @@ fn put_row(values: &[u64], row: &mut [u64])
 fn put_refusal(refusal: Refusal, row: &mut [u64])
     ensures { row.new ≡ with_row (refused_row refusal) row.old }
 {
-    let number = refusal.number as u64;
-    let place = refusal.place as u64;
+    let number = refusal.number() as u64;
+    let place = refusal.place() as u64;
     put_row(&[0, number, place, 0, 0, 0, 0], row)
 }
 
@@ -42,14 +41,14 @@ pub extern "C" fn zuccarvento_check(words: &[i32], row: &mut [u64])
     ensures { row.new ≡ with_row (check_row (check_of words.now)) row.old }
 {
     match checker::check(words) {
-        Checked::Accepted(s) => {
+        Ok(s) => {
             let nodes = s.nodes as u64;
             let quantifiers = s.quantifiers as u64;
             let sets = s.sets as u64;
             let root = s.root as u64;
             put_row(&[1, 0, 0, nodes, quantifiers, sets, root], row)
         }
-        Checked::Refused(r) => put_refusal(r, row),
+        Err(r) => put_refusal(r, row),
     }
 }
 
@@ -59,8 +58,8 @@ pub extern "C" fn zuccarvento_reduce(words: &[i32], out: &mut [i32], row: &mut [
     ensures out_after { out.new ≡ out_after words.now out.old }
 {
     match reducer::reduce(words, out) {
-        Reduced::Emitted(n) => put_value(1, n as u64, row),
-        Reduced::Refused(r) => put_refusal(r, row),
+        Ok(n) => put_value(1, n as u64, row),
+        Err(r) => put_refusal(r, row),
     }
 }
 
@@ -69,9 +68,9 @@ pub extern "C" fn zuccarvento_decide(words: &[i32], size: u32, allowance: u64, r
     ensures { row.new ≡ with_row (decide_row (decision_of words.now size allowance)) row.old }
 {
     match decider::decide(words, size, allowance) {
-        Decision::True(n) => put_value(1, n, row),
-        Decision::False(n) => put_value(2, n, row),
-        Decision::Spent(n) => put_value(3, n, row),
-        Decision::Refused(r) => put_refusal(r, row),
+        Ok(Decision::True(n)) => put_value(1, n, row),
+        Ok(Decision::False(n)) => put_value(2, n, row),
+        Ok(Decision::Spent(n)) => put_value(3, n, row),
+        Err(r) => put_refusal(r, row),
     }
 }

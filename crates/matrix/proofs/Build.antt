@@ -1,5 +1,6 @@
 -- Lists that are built node by node, each element from the earlier ones: the values of nodes and their bounds. And the nodes of a claim in words.
 -- Assumes nothing.
+use Rattle.std.proofs.Common.{Ok}
 use mathlib.Core.Path.{◌≡◌, refl, sym, ap, ◌∙◌}
 use mathlib.Core.List.{List, [], ◌∷◌, ◌++◌}
 use Prim.Native.Nat.{ℕ, zero, suc, ◌+◌, ◌*◌, ◌<◌, ◌≤◌}
@@ -10,7 +11,6 @@ use lib.IntN.{ℤ}
 use lib.ListN.{length, get_or, take, length-append}
 use lib.Seq.{take-append_seam, get_or-append_seam, get_or-take, take-take, take-length}
 use Rattle.checker.specs.declared.Shape.{Shape}
-use Rattle.checker.specs.declared.Checked.TheVariants.{Accepted}
 use Rattle.checker.specs.Claim.{Node, unknown}
 use Rattle.checker.specs.Words.{claim_of}
 use Rattle.checker.specs.Check.{check_of}
@@ -74,5 +74,5 @@ bounds_build N bs (n ∷ ns) = bounds_build N (bs ++ bound_of N bs n ∷ []) ns
 -- ---- the nodes of a claim in words
 
 -- there are words for each
-pub node_room : (ws : List ℤ) (s : Shape) → check_of ws ≡ Accepted s → (i : ℕ) → i < length (claim_of ws).nodes → 3 * i + 3 ≤ length ws
+pub node_room : (ws : List ℤ) (s : Shape) → check_of ws ≡ Ok s → (i : ℕ) → i < length (claim_of ws).nodes → 3 * i + 3 ≤ length ws
 node_room ws s e i h = omega (arith, words-length (claim_of ws), ap length (accepted_claim ws s e).words)

@@ -1,7 +1,6 @@
 -- What stands in the array of values while the counts of the final regions are settled one by one, from region 0 on. Assumes nothing.
-use Rattle.std.specs.Prelude.{◌≡◌, true, false, List, ◌++◌, ℕ, ◌+◌, ◌*◌, ◌^◌, ◌<◌, ◌≤◌, ℤ, nat_abs, length, get_or, Option, Some, None}
+use Rattle.std.specs.Prelude.{◌≡◌, true, false, List, ◌++◌, ℕ, ◌+◌, ◌*◌, ◌^◌, ◌<◌, ◌≤◌, ℤ, nat_abs, length, get_or, Option, Some, None, Ok}
 use Rattle.checker.specs.declared.Shape.{Shape}
-use Rattle.checker.specs.declared.Checked.TheVariants.{Accepted}
 use Rattle.checker.specs.declared.Sort.{Sort}
 use Rattle.checker.specs.declared.Sort.TheVariants.{ASet, ATerm, AFormula}
 use Rattle.checker.specs.Claim.{unknown, Claim}
@@ -18,7 +17,7 @@ use Rattle.matrix.specs.Entry.{node_values}
 -- A claim in the words ws that can be worked out at size N: the checker accepts it, and no term's bound is too large.
 pub record Ready (ws : List ℤ) (N : ℕ) : Type 0 where
   pub shape : Shape
-  pub accepted : check_of ws ≡ Accepted shape
+  pub accepted : check_of ws ≡ Ok shape
   pub bounded : first_over N (claim_of ws) ≡ length (claim_of ws).nodes
 
 -- The number x shows a value of a sort: a term's is the number itself, a formula's is 1 if it is true and 0 if not, and sets have none.

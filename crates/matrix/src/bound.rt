@@ -1,6 +1,5 @@
 // The bounds of terms, and the first node whose bound is too large.
 ghost use Rattle.std.specs.Prelude.{◌≡◌, ℕ, ◌+◌, ◌*◌, ◌≤◌, ◌<◌, nat_abs, length, get_or};
-ghost use Rattle.checker.specs.declared.Checked.TheVariants.{Accepted};
 ghost use Rattle.checker.specs.Words.{node_at, claim_of};
 ghost use Rattle.checker.specs.Check.{check_of};
 ghost use Rattle.matrix.specs.Bound.{max_bound, bound_of, first_over};
@@ -51,7 +50,7 @@ pub fn bound_of(words: &[i32], bounds: &[u64], i: usize, size: u32) -> u64
 
 // The first node whose bound is too large, or the number of nodes. It stops there: the bounds of later nodes may not fit.
 pub fn first_over(words: &[i32], shape: Shape, size: u32) -> usize
-    requires { check_of words.now ≡ Accepted shape }
+    requires { check_of words.now ≡ Ok shape }
     ensures { result ≡ first_over size (claim_of words.now) }
 {
     let nodes = shape.nodes;

@@ -1,6 +1,5 @@
 // The order in which nodes are worked out: those that the root needs, children first, and among them those first that few regions settle.
 ghost use Rattle.std.specs.Prelude.{◌≡◌, true, false, [], ◌∷◌, ℕ, ◌+◌, ◌*◌, ◌^◌, ◌≤◌, ◌<◌, length, get_or};
-ghost use Rattle.checker.specs.declared.Checked.TheVariants.{Accepted};
 ghost use Rattle.checker.specs.Words.{node_at, claim_of};
 ghost use Rattle.checker.specs.Check.{max_sets, check_of};
 ghost use Rattle.region.specs.Pattern.{entries, covers_at, End};
@@ -91,7 +90,7 @@ fn mark(marks: &mut [bool], o: Operands)
 
 // Marks the nodes that the root needs, from the last node down.
 fn mark_needed(words: &[i32], shape: Shape, marks: &mut [bool])
-    requires words_value { check_of words.now ≡ Accepted shape }
+    requires words_value { check_of words.now ≡ Ok shape }
     requires nodes_in_bounds { shape.nodes ≤ length marks.old }
     ensures { Closed (claim_of words.now) marks.new }
 {
@@ -148,7 +147,7 @@ fn placeable(
     m: usize,
     i: usize,
 ) -> bool
-    requires words_value { check_of words.now ≡ Accepted shape }
+    requires words_value { check_of words.now ≡ Ok shape }
     requires i_lt_nodes { (i < shape.nodes) × (i < length needed.now) × (i < length placed.now) × (i < length reach.now) }
     ensures placeable { result ≡ true → Placeable (claim_of words.now) needed.now placed.now reach.now m i }
     ensures value { Placeable (claim_of words.now) needed.now placed.now reach.now m i → result ≡ true }
@@ -176,7 +175,7 @@ fn place(
     order: &mut [usize],
     rows: usize,
 ) -> usize
-    requires words_value { check_of words.now ≡ Accepted shape }
+    requires words_value { check_of words.now ≡ Ok shape }
     requires nodes_in_bounds { (shape.nodes ≤ length needed.now) × (shape.nodes ≤ length reach.now) × (shape.nodes ≤ length placed.old) × (shape.nodes ≤ length order.old) }
     requires closed { Closed (claim_of words.now) needed.now }
     requires placed { Placed (claim_of words.now) placed.old order.old rows }
@@ -216,7 +215,7 @@ fn place_all(
     order: &mut [usize],
     upto: &mut [usize],
 ) -> usize
-    requires words_value { check_of words.now ≡ Accepted shape }
+    requires words_value { check_of words.now ≡ Ok shape }
     requires nodes_in_bounds { (shape.nodes ≤ length needed.now) × (shape.nodes ≤ length reach.now) × (shape.nodes ≤ length placed.old) × (shape.nodes ≤ length order.old) }
     requires sets_in_bounds { 2 ^ shape.sets < length upto.old }
     requires closed { Closed (claim_of words.now) needed.now }
@@ -243,7 +242,7 @@ pub fn arrange(
     order: &mut [usize],
     upto: &mut [usize],
 ) -> usize
-    requires words_value { check_of words.now ≡ Accepted shape }
+    requires words_value { check_of words.now ≡ Ok shape }
     requires filled { Filled (claim_of words.now) shape.nodes patterns.now }
     requires nodes_in_bounds { (shape.nodes ≤ length order.old) × (2 ^ shape.sets < length upto.old) }
     ensures order { Order (claim_of words.now) order.new result × Has order.new result (claim_of words.now).root × (result ≤ shape.nodes) }

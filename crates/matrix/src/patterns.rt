@@ -1,6 +1,5 @@
 // The table of patterns: one entry a node, filled once.
 ghost use Rattle.std.specs.Prelude.{◌≡◌, true, ◌+◌, ◌*◌, ◌<◌, get_or, drop};
-ghost use Rattle.checker.specs.declared.Checked.TheVariants.{Accepted};
 ghost use Rattle.checker.specs.Claim.{int_q};
 ghost use Rattle.checker.specs.Words.{claim_of};
 ghost use Rattle.checker.specs.Sorts.{is_set_q, sets};
@@ -12,7 +11,7 @@ use checker::Shape;
 
 // Whether quantifier j ranges over sets.
 pub fn over_sets(words: &[i32], shape: Shape, j: usize) -> bool
-    requires words_value { check_of words.now ≡ Accepted shape }
+    requires words_value { check_of words.now ≡ Ok shape }
     requires j_lt_quantifiers { j < shape.quantifiers }
     ensures { result ≡ is_set_q (get_or (claim_of words.now).quantifiers j (int_q true)) }
 {
@@ -25,7 +24,7 @@ pub fn over_sets(words: &[i32], shape: Shape, j: usize) -> bool
 
 // The bit of a quantifier's set in a region's number: how many sets stand inside it.
 fn position(words: &[i32], shape: Shape, q: usize) -> usize
-    requires words_value { check_of words.now ≡ Accepted shape }
+    requires words_value { check_of words.now ≡ Ok shape }
     requires q_lt_quantifiers { q < shape.quantifiers }
     ensures { result ≡ sets (drop (q + 1) (claim_of words.now).quantifiers) }
 {
@@ -43,7 +42,7 @@ fn position(words: &[i32], shape: Shape, q: usize) -> usize
 
 // Fills the entry of node i, where those of the nodes before it stand.
 fn put_entry(words: &[i32], shape: Shape, patterns: &mut [u64], i: usize)
-    requires words_value { check_of words.now ≡ Accepted shape }
+    requires words_value { check_of words.now ≡ Ok shape }
     requires i_lt_nodes { (i < shape.nodes) × Roomy shape patterns.old }
     requires filled { Filled (claim_of words.now) i patterns.old }
     ensures filled_2 { Filled (claim_of words.now) (i + 1) patterns.new }
@@ -68,7 +67,7 @@ fn put_entry(words: &[i32], shape: Shape, patterns: &mut [u64], i: usize)
 
 // Fills the entries of all nodes.
 pub fn prepare(words: &[i32], shape: Shape, patterns: &mut [u64])
-    requires words_value { check_of words.now ≡ Accepted shape }
+    requires words_value { check_of words.now ≡ Ok shape }
     requires roomy { Roomy shape patterns.old }
     ensures filled { Filled (claim_of words.now) shape.nodes patterns.new }
     ensures beyond { Beyond shape.nodes patterns.old patterns.new }

@@ -1,4 +1,6 @@
 -- The reader's answer is the claim that the writer takes and that has the text, and 21 where there is none. Assumes nothing.
+use Rattle.std.proofs.Common.{Result, Ok, Err}
+use Rattle.checker.specs.declared.refusals.Refusal.TheVariants as refused
 use mathlib.Core.Path.{◌≡◌, refl, sym, ap, ◌∙◌}
 use mathlib.Core.Logic.{◌⊎◌, inl, inr}
 use mathlib.Core.Bool.{Bool, true, false, cond, ◌&&◌, and-eq-true_iff, true≢false}
@@ -8,14 +10,12 @@ use native.Mathlib.Omega.{arith}
 use borrow.Author.Tests.{lt-ltb, le-ltb}
 use lib.IntN.{ℤ}
 use lib.ListN.{length, drop, length-map}
-use Rattle.checker.specs.declared.Checked.{Checked}
-use Rattle.checker.specs.declared.Checked.TheVariants as checked
-use Rattle.checker.specs.declared.Refusal.{Refusal}
+use Rattle.checker.specs.declared.refusals.Refusal.{Refusal}
 use Rattle.checker.specs.declared.Shape.{Shape}
 use Rattle.checker.specs.declared.Dialect.TheVariants.{Emitted}
 use Rattle.checker.specs.Claim.{Node, Claim}
 use Rattle.checker.specs.Words.{quantifier_word, trailer, claim_of, words_of}
-use Rattle.checker.specs.Check.{refusal, check_as}
+use Rattle.checker.specs.Check.{check_as}
 use Rattle.checker.specs.Accepted.{KindsTaken}
 use Rattle.checker.proofs.Words.{claim_words}
 use Rattle.checker.proofs.Accepted.{ClaimedAs, accepted_claim_as}
@@ -26,7 +26,6 @@ use Rattle.sentence.specs.Text.{text_of}
 use Rattle.sentence.specs.Scan.{scan}
 use Rattle.sentence.specs.Reading.{Reads, Within}
 use Rattle.sentence.proofs.Reading.{reads_once, reads_scan}
-use Rattle.reader.specs.declared.Read.TheVariants.{Words, Refused}
 use Rattle.reader.specs.Held.{in_words, held}
 use Rattle.reader.specs.Passing.{same}
 use Rattle.reader.specs.Runs.{limits}
@@ -41,9 +40,9 @@ alike true b f g = sym (f refl)
 alike false true f g = g refl
 alike false false f g = refl
 
-accepted : (k : Checked) → accepts k ≡ true → (s : Shape) × (k ≡ checked.Accepted s)
-accepted (checked.Accepted s) e = (s, refl)
-accepted (checked.Refused r) e = absurd (true≢false (sym e))
+accepted : (k : Result Shape Refusal) → accepts k ≡ true → (s : Shape) × (k ≡ Ok s)
+accepted (Ok s) e = (s, refl)
+accepted (Err r) e = absurd (true≢false (sym e))
 
 same_is : {bs text : List ℕ} → bs ≡ text → same bs text ≡ true
 same_is {bs} e = rw (← e) (same_refl bs)
@@ -107,33 +106,33 @@ module _ (text : List ℕ) where
   out_given c r out = rw (read_given c r (length out), scanned_is c r)
 
   -- Every text is one that the writer can have written, or it is answered by 21.
-  pub read_or_21 : ((c : Claim) × Reads WriterTakes text c) ⊎ ((room : ℕ) → read_of text room ≡ Refused (refusal 21 0))
+  pub read_or_21 : ((c : Claim) × Reads WriterTakes text c) ⊎ ((room : ℕ) → read_of text room ≡ Err refused.Unwritten)
   unfolding read_of answer
   read_or_21 = at (takes (scan limits text) && same (text_of (scan limits text)) text) refl
     where
       at : (b : Bool) → (takes (scan limits text) && same (text_of (scan limits text)) text) ≡ b
-          → ((c : Claim) × Reads WriterTakes text c) ⊎ ((room : ℕ) → cond (takes (scan limits text) && same (text_of (scan limits text)) text) (given (scan limits text) room) (Refused (refusal 21 0)) ≡ Refused (refusal 21 0))
+          → ((c : Claim) × Reads WriterTakes text c) ⊎ ((room : ℕ) → cond (takes (scan limits text) && same (text_of (scan limits text)) text) (given (scan limits text) room) (Err refused.Unwritten) ≡ Err refused.Unwritten)
       at true e =
           let (t, s) = (and-eq-true_iff (takes (scan limits text)) (same (text_of (scan limits text)) text)).0 e in
           inl (scan limits text, (t, same_true (text_of (scan limits text)) text s))
       at false e = inr (λ room. rw e)
 
   -- A text that the writer cannot have written is refused by 21.
-  pub read_none : ((c : Claim) → Reads WriterTakes text c → ⊥) → (room : ℕ) → read_of text room ≡ Refused (refusal 21 0)
+  pub read_none : ((c : Claim) → Reads WriterTakes text c → ⊥) → (room : ℕ) → read_of text room ≡ Err refused.Unwritten
   read_none n room = at read_or_21
     where
-      at : ((c : Claim) × Reads WriterTakes text c) ⊎ ((room : ℕ) → read_of text room ≡ Refused (refusal 21 0)) → read_of text room ≡ Refused (refusal 21 0)
+      at : ((c : Claim) × Reads WriterTakes text c) ⊎ ((room : ℕ) → read_of text room ≡ Err refused.Unwritten) → read_of text room ≡ Err refused.Unwritten
       at (inl (c, r)) = absurd (n c r)
       at (inr f) = f room
 
   -- A refusal leaves the output slice as it was.
-  pub out_refused : (out : List ℤ) {r : Refusal} → read_of text (length out) ≡ Refused r → out ≡ out_after text out
+  pub out_refused : (out : List ℤ) {r : Refusal} → read_of text (length out) ≡ Err r → out ≡ out_after text out
   unfolding out_after held_after
   out_refused out e = rw e
 
   -- ---- the words that were put
 
-  -- Words that the writer takes and writes as this text are a claim that it takes, and that has this text.
+  -- Ok that the writer takes and writes as this text are a claim that it takes, and that has this text.
   written_reads : (ws : List ℤ) → in_words ws ≡ true → writes ws text ≡ true → Reads WriterTakes text (claim_of ws)
   unfolding writes takes
   written_reads ws i h =
@@ -162,17 +161,17 @@ module _ (text : List ℕ) where
     count : length ws ≡ length (words_of (scan limits text))
     count = ap length e ∙ length-map (words_of (scan limits text)) held
 
-    pub answered_21 : writes ws text ≡ false → (room : ℕ) → read_of text room ≡ Refused (refusal 21 0)
+    pub answered_21 : writes ws text ≡ false → (room : ℕ) → read_of text room ≡ Err refused.Unwritten
     unfolding read_of answer
     answered_21 h room = rw (told false h)
 
-    pub answered_8 : writes ws text ≡ true → (room : ℕ) → room < length ws → read_of text room ≡ Refused (refusal 8 (length ws))
+    pub answered_8 : writes ws text ≡ true → (room : ℕ) → room < length ws → read_of text room ≡ Err (refused.TooShort (length ws))
     unfolding read_of answer given
     answered_8 h room l =
         let k : room < length (words_of (scan limits text)) = omega (arith, count) in
         rw (told true h, lt-ltb room (length (words_of (scan limits text))) k, count)
 
-    pub answered : writes ws text ≡ true → (room : ℕ) → length ws ≤ room → read_of text room ≡ Words (length ws)
+    pub answered : writes ws text ≡ true → (room : ℕ) → length ws ≤ room → read_of text room ≡ Ok (length ws)
     unfolding read_of answer given
     answered h room l =
         let k : length (words_of (scan limits text)) ≤ room = omega (arith, count) in
@@ -190,12 +189,12 @@ module _ (text : List ℕ) where
 -- ---- there and back
 
 -- What the writer writes for words that it takes is read as those words.
-pub read_back : (ws : List ℤ) (s : Shape) → in_words ws ≡ true → check_as Emitted ws ≡ checked.Accepted s → (out : List ℤ) → length ws ≤ length out
-    → (read_of (text_of (claim_of ws)) (length out) ≡ Words (length ws)) × (out_after (text_of (claim_of ws)) out ≡ ws ++ drop (length ws) out)
+pub read_back : (ws : List ℤ) (s : Shape) → in_words ws ≡ true → check_as Emitted ws ≡ Ok s → (out : List ℤ) → length ws ≤ length out
+    → (read_of (text_of (claim_of ws)) (length out) ≡ Ok (length ws)) × (out_after (text_of (claim_of ws)) out ≡ ws ++ drop (length ws) out)
 unfolding takes given held_after
 read_back ws s i e out l =
     let c = claim_of ws in
     let w = (accepted_claim_as Emitted ws s e).words in
     let t : WriterTakes c = rw (w, i, e) in
-    let room : given c (length out) ≡ Words (length ws) = rw (w, le-ltb (length out) (length ws) l) in
+    let room : given c (length out) ≡ Ok (length ws) = rw (w, le-ltb (length out) (length ws) l) in
     (read_given (text_of c) c (t, refl) (length out) ∙ room, out_given (text_of c) c (t, refl) out ∙ rw (room, w))

@@ -1,13 +1,13 @@
 -- The text of a claim, held against a text part by part; and what the writer says to words. Assumes nothing.
+use Rattle.std.proofs.Common.{Ok, Err}
 use mathlib.Core.Path.{◌≡◌, sym, ap, ◌∙◌}
 use mathlib.Core.Bool.{false}
 use mathlib.Core.List.{List, ◌++◌}
 use Prim.Native.Nat.{ℕ, ◌+◌}
 use lib.IntN.{ℤ}
 use lib.ListN.{length}
-use Rattle.checker.specs.declared.Refusal.{Refusal}
+use Rattle.checker.specs.declared.refusals.Refusal.{Refusal}
 use Rattle.checker.specs.declared.Shape.{Shape}
-use Rattle.checker.specs.declared.Checked.TheVariants.{Accepted, Refused}
 use Rattle.checker.specs.declared.Dialect.TheVariants.{Emitted}
 use Rattle.checker.specs.Claim.{Claim}
 use Rattle.checker.specs.Words.{claim_of}
@@ -48,10 +48,10 @@ module _ (text : List ℕ) where
 -- ---- what the writer says
 
 module _ (ws : List ℤ) (text : List ℕ) where
-  pub accepted_writes : {s : Shape} → check_as Emitted ws ≡ Accepted s → same (text_of (claim_of ws)) text ≡ writes ws text
+  pub accepted_writes : {s : Shape} → check_as Emitted ws ≡ Ok s → same (text_of (claim_of ws)) text ≡ writes ws text
   unfolding writes
   accepted_writes e = rw e
 
-  pub refused_writes : {r : Refusal} → check_as Emitted ws ≡ Refused r → false ≡ writes ws text
+  pub refused_writes : {r : Refusal} → check_as Emitted ws ≡ Err r → false ≡ writes ws text
   unfolding writes
   refused_writes e = rw e

@@ -11,7 +11,7 @@ ghost use Rattle.reader.specs.Runs.{limits, most_words};
 ghost use Rattle.reader.specs.Answer.{writes, read_of, out_after};
 
 use checker::names::{MAX_EMITTED_NODES, MAX_EMITTED_QUANTIFIERS};
-use checker::{Checked, Dialect, Refusal};
+use checker::{Dialect, Refusal};
 
 mod passing; // a text held against what the writer would write
 mod table; // the words of the claim that a text is scanned as
@@ -19,21 +19,13 @@ mod table; // the words of the claim that a text is scanned as
 // The words of the largest claim that the writer takes.
 const MOST_WORDS: usize = 3 * MAX_EMITTED_NODES + MAX_EMITTED_QUANTIFIERS + 4;
 
-// How many words were read, or a refusal.
-#[derive(Clone, Copy)]
-pub enum Read {
-    Words(usize),
-    Refused(Refusal),
-}
-
 // Whether the writer takes these words, and writes this text.
 fn written(text: &[u8], words: &[i32]) -> bool
     ensures { result ≡ writes words.now text.now }
 {
-    let checked = checker::check_as(words, Dialect::Emitted);
-    match checked {
-        Checked::Accepted(shape) => passing::same_text(text, words, shape),
-        Checked::Refused(_) => false,
+    match checker::check_as(words, Dialect::Emitted) {
+        Ok(shape) => passing::same_text(text, words, shape),
+        Err(_) => false,
     }
 }
 
@@ -49,30 +41,24 @@ fn copy(words: &[i32], out: &mut [i32])
 }
 
 // What the words that the text was scanned as come to. 21 is tested before 8.
-fn answer(text: &[u8], words: &[i32], out: &mut [i32]) -> Read
+fn answer(text: &[u8], words: &[i32], out: &mut [i32]) -> Result<usize, Refusal>
     requires { words.now ≡ map held (words_of (scan limits text.now)) }
     ensures value { result ≡ read_of text.now (length out.old) }
     ensures out_after { out.new ≡ out_after text.now out.old }
 {
     if !written(text, words) {
-        return Read::Refused(Refusal {
-            number: 21,
-            place: 0,
-        });
+        return Err(Refusal::Unwritten);
     }
     let needed = words.len();
     if out.len() < needed {
-        return Read::Refused(Refusal {
-            number: 8,
-            place: needed,
-        });
+        return Err(Refusal::TooShort(needed));
     }
     copy(words, out);
-    Read::Words(needed)
+    Ok(needed)
 }
 
 // Scans into the words lent, which hold the largest claim, so that `out` is touched by an answer alone.
-fn read_by(text: &[u8], words: &mut [i32], out: &mut [i32]) -> Read
+fn read_by(text: &[u8], words: &mut [i32], out: &mut [i32]) -> Result<usize, Refusal>
     requires { most_words ≤ length words.old }
     ensures value { result ≡ read_of text.now (length out.old) }
     ensures out_after { out.new ≡ out_after text.now out.old }
@@ -81,8 +67,8 @@ fn read_by(text: &[u8], words: &mut [i32], out: &mut [i32]) -> Read
     answer(text, &words[..n], out)
 }
 
-// The words of the claim that has this text, put from the start of `out` on.
-pub fn read_text(text: &[u8], out: &mut [i32]) -> Read
+// The words of the claim that has this text, put from the start of `out` on. How many they are.
+pub fn read_text(text: &[u8], out: &mut [i32]) -> Result<usize, Refusal>
     ensures value { result ≡ read_of text.now (length out.old) }
     ensures out_after { out.new ≡ out_after text.now out.old }
 {

@@ -1,5 +1,6 @@
 -- The promises for words that the checker accepts: their emission is true at the same sizes, is small, and is the words themselves where they have no sets.
 -- Assumes nothing.
+use Rattle.std.proofs.Common.{Ok}
 use mathlib.Core.Path.{◌≡◌}
 use mathlib.Core.Logic.{◌↔◌}
 use mathlib.Core.List.{List}
@@ -8,7 +9,6 @@ use lib.IntN.{ℤ}
 use lib.ListN.{length}
 use Rattle.checker.specs.declared.Dialect.TheVariants.{Emitted}
 use Rattle.checker.specs.declared.Shape.{Shape}
-use Rattle.checker.specs.declared.Checked.TheVariants.{Accepted}
 use Rattle.checker.specs.Words.{claim_of, words_of}
 use Rattle.checker.specs.Sorts.{sets}
 use Rattle.checker.specs.Meaning.{TrueAt}
@@ -21,7 +21,7 @@ use Rattle.reducer.proofs.Reduction.{words_kept}
 use Rattle.reducer.proofs.Sizes.{nodes_limit, quantifiers_limit}
 use Rattle.reducer.proofs.Unchanged.{words_unchanged}
 
-module _ (ws : List ℤ) (s : Shape) (accepted : check_of ws ≡ Accepted s) where
+module _ (ws : List ℤ) (s : Shape) (accepted : check_of ws ≡ Ok s) where
   pub accepted_kept : (N : ℕ) → TrueAt N (claim_of (words_of (emission (claim_of ws)))) ↔ TrueAt N (claim_of ws)
   accepted_kept N = words_kept N ws (accepted_claim ws s accepted).sorted
 

@@ -1,8 +1,7 @@
 -- What follows the runs of the nodes, as the code goes through it: the constraints, from the innermost quantifier to the outermost.
 -- Assumes nothing.
-use Rattle.std.specs.Prelude.{◌≡◌, true, List, ◌++◌, map, ℕ, ◌+◌, ◌*◌, ◌^◌, ◌≤◌, ℤ, length, get_or, take, drop}
+use Rattle.std.specs.Prelude.{◌≡◌, true, List, ◌++◌, map, ℕ, ◌+◌, ◌*◌, ◌^◌, ◌≤◌, ℤ, length, get_or, take, drop, Ok}
 use Rattle.checker.specs.declared.Shape.{Shape}
-use Rattle.checker.specs.declared.Checked.TheVariants.{Accepted}
 use Rattle.checker.specs.Claim.{Node, int_q, Claim}
 use Rattle.checker.specs.Words.{claim_of, nodes_words, quantifier_word, trailer}
 use Rattle.checker.specs.Check.{max_sets, check_of}
@@ -15,7 +14,7 @@ use Rattle.reducer.specs.Sizes.{constraint_part}
 
 -- What is asked of the words, of what the checker says of them and of what their quantifiers give.
 pub record Prepared (ws : List ℤ) (shape : Shape) (plan : List ℕ) : Type 0 where
-  pub accepted : check_of ws ≡ Accepted shape
+  pub accepted : check_of ws ≡ Ok shape
   pub planned : Planned plan (claim_of ws).quantifiers
 
 -- ---- one quantifier

@@ -9,7 +9,7 @@ ghost use Rattle.region.specs.Pattern.{Roomy};
 ghost use Rattle.emission.specs.Emission.{emission};
 ghost use Rattle.reducer.specs.Reduced.{reducer_tests, answer, reduced_of, out_after, held_after};
 
-use checker::{Checked, Shape};
+use checker::{Refusal, Shape};
 use size::Size;
 
 mod closing; // what follows the nodes' runs
@@ -25,34 +25,32 @@ const NUMBERS: usize = 2147483648;
 // The plan of 32 quantifiers.
 const PLAN: usize = 99;
 
-// How many words were written, or a refusal.
-#[derive(Clone, Copy)]
-pub enum Reduced {
-    Emitted(usize),
-    Refused(checker::Refusal),
-}
-
 // Refusals 12 and 8, of an emission of this size into `room` words.
-fn admit(size: Size, room: usize, shape: Shape) -> Checked
-    ensures { (c : Claim) → size.nodes ≡ length c.nodes → size.quantifiers ≡ length c.quantifiers → result ≡ verdict (reducer_tests room c) (Checked.Accepted shape) }
+fn admit(size: Size, room: usize, shape: Shape) -> Result<Shape, Refusal>
+    ensures { (c : Claim) → size.nodes ≡ length c.nodes → size.quantifiers ≡ length c.quantifiers → result ≡ verdict (reducer_tests room c) (Ok shape) }
 {
     if NUMBERS < size.nodes {
-        return checker::refused(12, 0);
+        return Err(Refusal::LargeNumber);
     }
     if NUMBERS < size.quantifiers {
-        return checker::refused(12, 0);
+        return Err(Refusal::LargeNumber);
     }
     let needed = size.words();
     if room < needed {
-        return checker::refused(8, needed);
+        return Err(Refusal::TooShort(needed));
     }
-    Checked::Accepted(shape)
+    Ok(shape)
 }
 
 // What is emitted is counted first, so that a refusal writes nothing.
-fn reduce_claim(words: &[i32], shape: Shape, patterns: &mut [u64], out: &mut [i32]) -> Reduced
-    requires { (check_of words.now ≡ Checked.Accepted shape) × Roomy shape patterns.old }
-    ensures value { result ≡ answer (emission (claim_of words.now)) (verdict (reducer_tests (length out.old) (emission (claim_of words.now))) (Checked.Accepted shape)) }
+fn reduce_claim(
+    words: &[i32],
+    shape: Shape,
+    patterns: &mut [u64],
+    out: &mut [i32],
+) -> Result<usize, Refusal>
+    requires { (check_of words.now ≡ Ok shape) × Roomy shape patterns.old }
+    ensures value { result ≡ answer (emission (claim_of words.now)) (verdict (reducer_tests (length out.old) (emission (claim_of words.now))) (Ok shape)) }
     ensures out_after { out.new ≡ held_after result (emission (claim_of words.now)) out.old }
 {
     let mut plan = [0usize; PLAN];
@@ -60,19 +58,14 @@ fn reduce_claim(words: &[i32], shape: Shape, patterns: &mut [u64], out: &mut [i3
     let first = emission::nodes::count(words, shape, &plan, patterns);
     let runs = first.nodes;
     let size = size::emitted(words, shape, &plan, runs);
-    let admitted = admit(size, out.len(), shape);
-    match admitted {
-        Checked::Accepted(_) => {
-            Reduced::Emitted(closing::put_emission(words, shape, &plan, patterns, out, first))
-        }
-        Checked::Refused(refusal) => Reduced::Refused(refusal),
-    }
+    admit(size, out.len(), shape)?;
+    Ok(closing::put_emission(words, shape, &plan, patterns, out, first))
 }
 
 // With a table of patterns as long as the sets of the claim ask for: clearing it is a good part of a short call.
-fn reduce_accepted(words: &[i32], shape: Shape, out: &mut [i32]) -> Reduced
-    requires { check_of words.now ≡ Checked.Accepted shape }
-    ensures value { result ≡ answer (emission (claim_of words.now)) (verdict (reducer_tests (length out.old) (emission (claim_of words.now))) (Checked.Accepted shape)) }
+fn reduce_accepted(words: &[i32], shape: Shape, out: &mut [i32]) -> Result<usize, Refusal>
+    requires { check_of words.now ≡ Ok shape }
+    ensures value { result ≡ answer (emission (claim_of words.now)) (verdict (reducer_tests (length out.old) (emission (claim_of words.now))) (Ok shape)) }
     ensures out_after { out.new ≡ held_after result (emission (claim_of words.now)) out.old }
 {
     if shape.sets <= region::NARROW_SETS {
@@ -83,14 +76,11 @@ fn reduce_accepted(words: &[i32], shape: Shape, out: &mut [i32]) -> Reduced
     reduce_claim(words, shape, &mut patterns, out)
 }
 
-// Writes the emission of the claim from the start of `out` on.
-pub fn reduce(words: &[i32], out: &mut [i32]) -> Reduced
+// Writes the emission of the claim from the start of `out` on, and says how many words that takes.
+pub fn reduce(words: &[i32], out: &mut [i32]) -> Result<usize, Refusal>
     ensures value { result ≡ reduced_of words.now (length out.old) }
     ensures out_after { out.new ≡ out_after words.now out.old }
 {
-    let checked = checker::check(words);
-    match checked {
-        Checked::Accepted(shape) => reduce_accepted(words, shape, out),
-        Checked::Refused(refusal) => Reduced::Refused(refusal),
-    }
+    let shape = checker::check(words)?;
+    reduce_accepted(words, shape, out)
 }

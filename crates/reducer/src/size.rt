@@ -8,7 +8,7 @@ ghost use Rattle.reducer.specs.Reduced.{numbers};
 ghost use Rattle.reducer.specs.Sizes.{constraint_part};
 ghost use Rattle.reducer.specs.Closing.{Prepared};
 
-use checker::{Checked, Shape};
+use checker::Shape;
 use emission::kinds::ALL_SETS;
 use emission::plan::frame_at;
 
@@ -30,7 +30,7 @@ impl Size {
 
 // How many of the quantifiers are for-all quantifiers over sets.
 fn for_alls(words: &[i32], shape: Shape) -> usize
-    requires { check_of words.now ≡ Checked.Accepted shape }
+    requires { check_of words.now ≡ Ok shape }
     ensures { result ≡ all_sets (claim_of words.now).quantifiers }
 {
     let start = 3 * shape.nodes;
@@ -48,7 +48,7 @@ fn for_alls(words: &[i32], shape: Shape) -> usize
 
 // The nodes of the constraints: each region but the first was split off with six, and a for-all takes one more.
 fn constraint_nodes(words: &[i32], shape: Shape) -> usize
-    requires { check_of words.now ≡ Checked.Accepted shape }
+    requires { check_of words.now ≡ Ok shape }
     ensures { result ≡ length (constraint_part (claim_of words.now)) }
 {
     let sets = shape.sets;

@@ -1,4 +1,7 @@
 -- The writer never refuses what the reducer emits of an input text: the lent bytes suffice. Assumes nothing.
+use Rattle.std.proofs.Common.{Result, Ok, Err}
+use Rattle.checker.specs.declared.Shape.{Shape}
+use Rattle.checker.specs.declared.refusals.Refusal.{Refusal}
 use mathlib.Core.Path.{◌≡◌, refl, sym, ap, ◌∙◌}
 use mathlib.Core.Bool.{cond}
 use mathlib.Core.List.{List}
@@ -7,15 +10,11 @@ use native.Mathlib.Omega.{arith}
 use borrow.Author.Tests.{le-ltb}
 use lib.IntN.{ℤ}
 use lib.ListN.{length}
-use Rattle.checker.specs.declared.Checked.{Checked}
-use Rattle.checker.specs.declared.Checked.TheVariants as checked
 use Rattle.checker.specs.Claim.{Claim}
 use Rattle.checker.specs.Words.{claim_of, words_of}
 use Rattle.checker.specs.Check.{verdict}
 use Rattle.checker.proofs.Accepted.{accepted_claim}
 use Rattle.emission.specs.Emission.{emission}
-use Rattle.reducer.specs.declared.Reduced.{Reduced}
-use Rattle.reducer.specs.declared.Reduced.TheVariants.{Emitted, Refused}
 use Rattle.reducer.specs.Reduced.{reducer_tests, answer, reduced_of}
 use Rattle.reducer.proofs.Accepted.{accepted_nodes, accepted_quantifiers}
 use Rattle.reducer.proofs.Admitted.{admitted_room, claim_answer}
@@ -35,19 +34,19 @@ unfolding fitted_text fitted written_text
 fits c h = rw (le-ltb lent_bytes (length (text_of c)) h)
 
 -- what is emitted has room in the lent words
-emitted_room : (ws : List ℤ) (room n : ℕ) → reduced_of ws room ≡ Emitted n → length (words_of (emission (claim_of ws))) ≤ room
+emitted_room : (ws : List ℤ) (room n : ℕ) → reduced_of ws room ≡ Ok n → length (words_of (emission (claim_of ws))) ≤ room
 unfolding answer
 emitted_room ws room n e =
     let a = accepted ws room n e in
-    go (verdict (reducer_tests room (emission (claim_of ws))) (checked.Accepted a.0)) refl (sym (claim_answer ws room a.1) ∙ e)
+    go (verdict (reducer_tests room (emission (claim_of ws))) (Ok a.0)) refl (sym (claim_answer ws room a.1) ∙ e)
   where
-    go : (v : Checked) → verdict (reducer_tests room (emission (claim_of ws))) (checked.Accepted (accepted ws room n e).0) ≡ v
-        → answer (emission (claim_of ws)) v ≡ Emitted n → length (words_of (emission (claim_of ws))) ≤ room
-    go (checked.Accepted t) p f = admitted_room (emission (claim_of ws)) room (accepted ws room n e).0 p
-    go (checked.Refused r) p f = let z : ◌≡◌ {A = ℕ} 0 1 = cc f in absurd (omega arith)
+    go : (v : Result Shape Refusal) → verdict (reducer_tests room (emission (claim_of ws))) (Ok (accepted ws room n e).0) ≡ v
+        → answer (emission (claim_of ws)) v ≡ Ok n → length (words_of (emission (claim_of ws))) ≤ room
+    go (Ok t) p f = admitted_room (emission (claim_of ws)) room (accepted ws room n e).0 p
+    go (Err r) p f = let z : ◌≡◌ {A = ℕ} 0 1 = cc f in absurd (omega arith)
 
 module _ (ws : List ℤ) (small : AllSmall ws) where
-  text_whole : (n : ℕ) → reduced_of ws lent_words ≡ Emitted n → fitted_text (emission (claim_of ws)) ≡ text_of (emission (claim_of ws))
+  text_whole : (n : ℕ) → reduced_of ws lent_words ≡ Ok n → fitted_text (emission (claim_of ws)) ≡ text_of (emission (claim_of ws))
   text_whole n e =
       let a = accepted ws lent_words n e in
       fits (emission (claim_of ws))
@@ -58,9 +57,9 @@ module _ (ws : List ℤ) (small : AllSmall ws) where
   unfolding fitted_words smt_words fitted_reduced smt_reduced
   words_whole = go (reduced_of ws lent_words) refl
     where
-      go : (r : Reduced) → reduced_of ws lent_words ≡ r → fitted_reduced (claim_of ws) r ≡ smt_reduced (claim_of ws) r
-      go (Emitted n) e = text_whole n e
-      go (Refused r) e = refl
+      go : (r : Result ℕ Refusal) → reduced_of ws lent_words ≡ r → fitted_reduced (claim_of ws) r ≡ smt_reduced (claim_of ws) r
+      go (Ok n) e = text_whole n e
+      go (Err r) e = refl
 
 pub always_whole : (text : List ℕ) → answered fitted_words (input_words text) ≡ answered smt_words (input_words text)
 unfolding answered

@@ -4,7 +4,6 @@
 
 ghost use Rattle.std.specs.Prelude.{◌≡◌};
 ghost use Rattle.checker.specs.declared.Dialect.TheVariants.{Emitted};
-ghost use Rattle.checker.specs.declared.Checked.TheVariants.{Accepted};
 ghost use Rattle.checker.specs.Words.{claim_of};
 ghost use Rattle.checker.specs.Check.{check_as};
 ghost use Rattle.checker.specs.Accepted.{claim_shape};
@@ -13,17 +12,15 @@ ghost use Rattle.smt_text.specs.Answer.{smt_text};
 ghost use Rattle.smt_text.specs.Lent.{fitted_text, fitted_words};
 
 use decimal::Scanned;
-use reducer::Reduced;
-use solver::Written;
 
 // The writer takes every emission. Of words of 32 bits none has a text longer than the lent bytes, so that it refuses none either.
 fn put_text(words: &[i32], out: &mut [u8; 393216]) -> usize
-    requires { check_as Emitted words.now ≡ Accepted (claim_shape (claim_of words.now)) }
+    requires { check_as Emitted words.now ≡ Ok (claim_shape (claim_of words.now)) }
     ensures { Printed out.old (fitted_text (claim_of words.now)) out.new result }
 {
     match solver::write_text(words, out) {
-        Written::Bytes(n) => n,
-        Written::Refused(r) => text::put_refusal(out, r),
+        Ok(n) => n,
+        Err(r) => text::put_refusal(out, r),
     }
 }
 
@@ -32,8 +29,8 @@ fn smt_words(words: &[i32], out: &mut [u8; 393216]) -> usize
 {
     let mut emission = [0i32; 16384];
     match reducer::reduce(words, &mut emission) {
-        Reduced::Emitted(n) => put_text(&emission[..n], out),
-        Reduced::Refused(r) => text::put_refusal(out, r),
+        Ok(n) => put_text(&emission[..n], out),
+        Err(r) => text::put_refusal(out, r),
     }
 }
 

@@ -7,7 +7,7 @@ ghost use Rattle.checker.specs.Words.{claim_of};
 ghost use Rattle.solver.specs.Laid.{Laid};
 ghost use Rattle.solver.specs.Written.{fitted, written_of, held_after, out_after};
 
-use checker::{Checked, Dialect, Refusal, Shape};
+use checker::{Dialect, Refusal, Shape};
 
 mod expression; // the expression of a node
 mod kinds; // kinds by name
@@ -20,37 +20,24 @@ pub use lines::{put_line, put_quantifier};
 pub use pieces::put_one;
 pub use size::closing;
 
-// How many bytes were written, or a refusal.
-#[derive(Clone, Copy)]
-pub enum Written {
-    Bytes(usize),
-    Refused(Refusal),
-}
-
 // The text is measured first, so that a refusal writes nothing.
-fn write_claim(words: &[i32], shape: Shape, out: &mut [u8]) -> Written
+fn write_claim(words: &[i32], shape: Shape, out: &mut [u8]) -> Result<usize, Refusal>
     requires { Laid words.now shape }
     ensures value { result ≡ fitted (length out.old) (claim_of words.now) }
     ensures out_after { out.new ≡ held_after result (claim_of words.now) out.old }
 {
     let needed = size::text_length(words, shape);
     if out.len() < needed {
-        return Written::Refused(Refusal {
-            number: 8,
-            place: needed,
-        });
+        return Err(Refusal::TooShort(needed));
     }
-    Written::Bytes(text::put_text(words, shape, out))
+    Ok(text::put_text(words, shape, out))
 }
 
-// Writes the text of an emitted claim from the start of `out` on.
-pub fn write_text(words: &[i32], out: &mut [u8]) -> Written
+// Writes the text of an emitted claim from the start of `out` on, and says how many bytes that takes.
+pub fn write_text(words: &[i32], out: &mut [u8]) -> Result<usize, Refusal>
     ensures value { result ≡ written_of words.now (length out.old) }
     ensures out_after { out.new ≡ out_after words.now out.old }
 {
-    let checked = checker::check_as(words, Dialect::Emitted);
-    match checked {
-        Checked::Accepted(shape) => write_claim(words, shape, out),
-        Checked::Refused(refusal) => Written::Refused(refusal),
-    }
+    let shape = checker::check_as(words, Dialect::Emitted)?;
+    write_claim(words, shape, out)
 }

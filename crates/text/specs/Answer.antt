@@ -1,17 +1,16 @@
 -- What the programs print for their texts, byte for byte (01, refusal 0 and "Small claims with known outcomes"): the emitted table, an outcome,
 -- or a refusal, each line ending in LF. Assumes nothing.
-use Rattle.std.specs.Prelude.{◌≡◌, cond, List, [], ◌∷◌, ◌++◌, map, ℕ, leb, ℤ, length, drop}
+use Rattle.std.specs.Prelude.{◌≡◌, cond, List, [], ◌∷◌, ◌++◌, map, ℕ, leb, ℤ, length, drop, Result, Ok, Err}
+use Rattle.checker.specs.declared.refusals.Refusal.TheVariants as refused
+use Rattle.checker.specs.Refusals.{number_of, place_of}
 use Rattle.decimal.specs.declared.Number.{Number}
 use Rattle.decimal.specs.declared.Number.TheVariants.{Value, NoNumber}
 use Rattle.decimal.specs.Reading.{Reading, stopped, read_text, number_in}
 use Rattle.decimal.specs.Printing.{bytes, line_feed, decimal, line_text}
-use Rattle.checker.specs.declared.Refusal.{Refusal}
+use Rattle.checker.specs.declared.refusals.Refusal.{Refusal}
 use Rattle.checker.specs.Claim.{Node, Claim}
 use Rattle.checker.specs.Words.{claim_of, node_words, quantifier_word, trailer}
-use Rattle.checker.specs.Check.{refusal}
 use Rattle.emission.specs.Emission.{emission}
-use Rattle.reducer.specs.declared.Reduced.{Reduced}
-use Rattle.reducer.specs.declared.Reduced.TheVariants as reduced
 use Rattle.reducer.specs.Reduced.{reduced_of}
 use Rattle.decider.specs.declared.Decision.{Decision}
 use Rattle.decider.specs.declared.Decision.TheVariants as decision
@@ -45,21 +44,21 @@ mark s n = s ++ decimal n
 
 -- the word refused, the number and the place, with one space between
 unfoldable pub refusal_text : Refusal → List ℕ
-refusal_text r = mark (bytes "refused ") r.number ++ (mark (bytes " ") r.place ++ (line_feed ∷ []))
+refusal_text r = mark (bytes "refused ") (number_of r) ++ (mark (bytes " ") (place_of r) ++ (line_feed ∷ []))
 
 -- refusal 0: no words are read
 unfoldable pub unread : List ℕ
-unread = refusal_text (refusal 0 0)
+unread = refusal_text refused.Unread
 
 -- an outcome's word and its steps
 unfoldable pub steps_text : List ℕ → ℕ → List ℕ
 steps_text s n = mark s n ++ (line_feed ∷ [])
 
-unfoldable pub decision_text : Decision → List ℕ
-decision_text (decision.True n) = steps_text (bytes "true ") n
-decision_text (decision.False n) = steps_text (bytes "false ") n
-decision_text (decision.Spent n) = steps_text (bytes "spent ") n
-decision_text (decision.Refused r) = refusal_text r
+unfoldable pub decision_text : Result Decision Refusal → List ℕ
+decision_text (Ok (decision.True n)) = steps_text (bytes "true ") n
+decision_text (Ok (decision.False n)) = steps_text (bytes "false ") n
+decision_text (Ok (decision.Spent n)) = steps_text (bytes "spent ") n
+decision_text (Err r) = refusal_text r
 
 unfoldable pub nodes_text : List Node → List ℕ
 nodes_text [] = []
@@ -69,9 +68,9 @@ nodes_text (n ∷ ns) = line_text (node_words n) ++ nodes_text ns
 unfoldable pub table_text : Claim → List ℕ
 table_text c = nodes_text c.nodes ++ (line_text (map quantifier_word c.quantifiers) ++ line_text (trailer c))
 
-unfoldable pub reduced_text : Claim → Reduced → List ℕ
-reduced_text c (reduced.Emitted n) = table_text (emission c)
-reduced_text c (reduced.Refused r) = refusal_text r
+unfoldable pub reduced_text : Claim → Result ℕ Refusal → List ℕ
+reduced_text c (Ok n) = table_text (emission c)
+reduced_text c (Err r) = refusal_text r
 
 -- ---- answers
 

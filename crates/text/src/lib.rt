@@ -8,7 +8,6 @@ ghost use Rattle.text.specs.Answer.{input_words, answered, reduce_words, reduce_
 
 use decider::Decision;
 use decimal::{Number, Scanned};
-use reducer::Reduced;
 
 mod lines; // the lines of a table, an outcome and a refusal
 
@@ -36,8 +35,8 @@ fn reduce_words(words: &[i32], out: &mut [u8; 196608]) -> usize
 {
     let mut emission = [0i32; 16384];
     match reducer::reduce(words, &mut emission) {
-        Reduced::Emitted(n) => lines::put_table(out, &emission[..n]),
-        Reduced::Refused(r) => lines::put_refusal(out, r),
+        Ok(n) => lines::put_table(out, &emission[..n]),
+        Err(r) => lines::put_refusal(out, r),
     }
 }
 
@@ -55,10 +54,10 @@ fn decide_words(words: &[i32], size: u32, allowance: u64, out: &mut [u8; 64]) ->
     ensures { Printed out.old (decide_words size allowance words.now) out.new result }
 {
     match decider::decide(words, size, allowance) {
-        Decision::True(steps) => lines::put_steps(out, b"true ", steps),
-        Decision::False(steps) => lines::put_steps(out, b"false ", steps),
-        Decision::Spent(steps) => lines::put_steps(out, b"spent ", steps),
-        Decision::Refused(r) => lines::put_refusal(out, r),
+        Ok(Decision::True(steps)) => lines::put_steps(out, b"true ", steps),
+        Ok(Decision::False(steps)) => lines::put_steps(out, b"false ", steps),
+        Ok(Decision::Spent(steps)) => lines::put_steps(out, b"spent ", steps),
+        Err(r) => lines::put_refusal(out, r),
     }
 }
 

@@ -21,8 +21,8 @@ pub fn put_refusal(out: &mut [u8], refusal: Refusal) -> usize
     requires { 50 ≤ length out.old }
     ensures { Printed out.old (refusal_text refusal) out.new result }
 {
-    let place = put_mark(out, 0, b"refused ", refusal.number as u64);
-    let end = put_mark(out, place, b" ", refusal.place as u64);
+    let place = put_mark(out, 0, b"refused ", refusal.number() as u64);
+    let end = put_mark(out, place, b" ", refusal.place() as u64);
     decimal::put_byte(out, end, b'\n')
 }
 
@@ -31,13 +31,7 @@ pub fn put_unread(out: &mut [u8]) -> usize
     requires { 50 ≤ length out.old }
     ensures { Printed out.old unread out.new result }
 {
-    put_refusal(
-        out,
-        Refusal {
-            number: 0,
-            place: 0,
-        },
-    )
+    put_refusal(out, Refusal::Unread)
 }
 
 // An outcome's word and its steps.

@@ -1,11 +1,11 @@
 -- The emission of a claim that the checker accepts is an emitted table: it speaks of numbers alone and is within the limits. Assumes nothing.
+use Rattle.std.proofs.Common.{Ok}
 use mathlib.Core.Path.{◌≡◌, refl}
 use mathlib.Core.Bool.{false}
 use mathlib.Core.List.{List, [], ◌∷◌}
 use Prim.Native.Nat.{ℕ, zero, suc}
 use lib.ListN.{get_or}
 use Rattle.checker.specs.declared.Dialect.TheVariants.{Emitted}
-use Rattle.checker.specs.declared.Checked.TheVariants.{Accepted}
 use Rattle.checker.specs.Claim.{Node, Claim, unknown}
 use Rattle.checker.specs.Kinds.{is_set}
 use Rattle.checker.specs.Words.{words_of}
@@ -33,7 +33,7 @@ taken_nodes : (ns : List Node) → AllPlain ns → KindsTaken Emitted ns
 taken_nodes [] p = tt
 taken_nodes (n ∷ ns) (p, ps) = (p, taken_nodes ns ps)
 
-pub emission_accepted : (c : Claim) → WellSorted c → Limited c → check_as Emitted (words_of (emission c)) ≡ Accepted (claim_shape (emission c))
+pub emission_accepted : (c : Claim) → WellSorted c → Limited c → check_as Emitted (words_of (emission c)) ≡ Ok (claim_shape (emission c))
 emission_accepted c h l =
     emitted_accepted (emission c) (emission_sorted c h) (nodes_limit c l.few_nodes l.few_sets) (quantifiers_limit c l.few_quantifiers l.few_sets)
     (taken_nodes (emission c).nodes (plain_emission c h).nodes) (emission_no_sets c)

@@ -1,5 +1,6 @@
 -- The same from words: for every table that the checker accepts, the writer writes the text of its emission where it has room, and "unsat" for that
 -- text says that the claim is true at every size. Assumes nothing.
+use Rattle.std.proofs.Common.{Ok}
 use mathlib.Core.Path.{◌≡◌, ap, ◌∙◌}
 use mathlib.Core.Logic.{◌↔◌}
 use mathlib.Core.List.{List, ◌++◌}
@@ -9,7 +10,6 @@ use lib.Dec.{T}
 use lib.IntN.{ℤ}
 use lib.ListN.{length, drop}
 use Rattle.checker.specs.declared.Shape.{Shape}
-use Rattle.checker.specs.declared.Checked.TheVariants.{Accepted}
 use Rattle.checker.specs.Claim.{Claim}
 use Rattle.checker.specs.Words.{claim_of, words_of}
 use Rattle.checker.specs.Meaning.{TrueAt}
@@ -21,13 +21,12 @@ use Rattle.decider.specs.Plan.{only_sets}
 use Rattle.sentence.specs.Smt.{Sat, nothing}
 use Rattle.sentence.specs.Sentences.{commands}
 use Rattle.sentence.specs.Text.{text_of}
-use Rattle.solver.specs.declared.Written.TheVariants.{Bytes}
 use Rattle.solver.specs.Written.{fitted, written_of, held_after, out_after}
 use Rattle.solver.proofs.Answers.{claim_answer}
 use Rattle.unsat.proofs.Emitted.{emission_accepted}
 use Rattle.unsat.proofs.Unsat.{unsat_nowhere_false, unsat_sets}
 
-module _ (ws : List ℤ) (s : Shape) (accepted : check_of ws ≡ Accepted s) where
+module _ (ws : List ℤ) (s : Shape) (accepted : check_of ws ≡ Ok s) where
   abbrev emitted : Claim
   emitted = emission (claim_of ws)
 
@@ -39,10 +38,10 @@ module _ (ws : List ℤ) (s : Shape) (accepted : check_of ws ≡ Accepted s) whe
 
   -- and writes its text, if there is room for it
   module _ (out : List ℕ) (h : length (text_of emitted) ≤ length out) where
-    pub emission_written : written_of (words_of emitted) (length out) ≡ Bytes (length (text_of emitted))
+    pub emission_written : written_of (words_of emitted) (length out) ≡ Ok (length (text_of emitted))
     emission_written = emission_taken (length out) ∙ fits
       where
-        fits : fitted (length out) emitted ≡ Bytes (length (text_of emitted))
+        fits : fitted (length out) emitted ≡ Ok (length (text_of emitted))
         fits = unfold fitted in rw (le-ltb (length out) (length (text_of emitted)) h)
 
     pub emission_text : out_after (words_of emitted) out ≡ text_of emitted ++ drop (length (text_of emitted)) out

@@ -11,32 +11,29 @@ use Rattle.checker.proofs.check_as.Goals as goal
 pub returns-then-length-lt4 : goal.returns-then-length-lt4
 unfolding check_as rest_of
 returns-then-length-lt4 c =
-    c.refused.ensures ∙ at_1 (plain_as c.args.dialect c.args.words.now) c.if-length-lt4.true
+    at_1 (plain_as c.args.dialect c.args.words.now) c.if-length-lt4.true
 
 pub returns-then-word-ne-MARK : goal.returns-then-word-ne-MARK
 unfolding check_as rest_of
 returns-then-word-ne-MARK c =
-    c.refused-then-word-ne-MARK.ensures ∙ at_1_mark (plain_as c.args.dialect c.args.words.now) c.if-length-lt4.false _ c.word.ensures c.if-word-ne-MARK.true
+    at_1_mark (plain_as c.args.dialect c.args.words.now) c.if-length-lt4.false _ c.word.ensures c.if-word-ne-MARK.true
 
 pub returns-then-nodes-lt1 : goal.returns-then-nodes-lt1
 unfolding check_as rest_of
 returns-then-nodes-lt1 c =
-    c.refused-then-nodes-lt1.ensures
-    ∙ at_2_nodes (plain_as c.args.dialect c.args.words.now) c.if-length-lt4.false _ c.word.ensures c.if-word-ne-MARK.false _ c.word-nodes.ensures
+    at_2_nodes (plain_as c.args.dialect c.args.words.now) c.if-length-lt4.false _ c.word.ensures c.if-word-ne-MARK.false _ c.word-nodes.ensures
     (under 1 (most_nodes c.args.dialect) c.word-nodes.result c.if-nodes-lt1.true)
 
 pub returns-then-most_nodes-nodes : goal.returns-then-most_nodes-nodes
 unfolding check_as rest_of
 returns-then-most_nodes-nodes c =
-    c.refused-then-most_nodes-nodes.ensures
-    ∙ at_2_nodes (plain_as c.args.dialect c.args.words.now) c.if-length-lt4.false _ c.word.ensures c.if-word-ne-MARK.false _ c.word-nodes.ensures
+    at_2_nodes (plain_as c.args.dialect c.args.words.now) c.if-length-lt4.false _ c.word.ensures c.if-word-ne-MARK.false _ c.word-nodes.ensures
     (above 1 (most_nodes c.args.dialect) c.word-nodes.result (omega arith))
 
 pub returns-then-most_quantifiers-quantifiers : goal.returns-then-most_quantifiers-quantifiers
 unfolding check_as rest_of
 returns-then-most_quantifiers-quantifiers c =
-    c.refused-then-most_quantifiers-quantifiers.ensures
-    ∙ at_2_quantifiers (plain_as c.args.dialect c.args.words.now) c.if-length-lt4.false _ c.word.ensures c.if-word-ne-MARK.false _ c.word-nodes.ensures
+    at_2_quantifiers (plain_as c.args.dialect c.args.words.now) c.if-length-lt4.false _ c.word.ensures c.if-word-ne-MARK.false _ c.word-nodes.ensures
     (inside 1 (most_nodes c.args.dialect) c.word-nodes.result (omega arith) (omega arith)) _ c.word-quantifiers.ensures (omega arith)
 
 pub overflow_mul-nodes : goal.overflow_mul-nodes
@@ -57,8 +54,7 @@ overflow_add-nodes-2 c =
 pub returns-then-length-nodes : goal.returns-then-length-nodes
 unfolding check_as rest_of
 returns-then-length-nodes c =
-    c.refused-then-length-nodes.ensures
-    ∙ at_3 (plain_as c.args.dialect c.args.words.now) c.if-length-lt4.false _ c.word.ensures c.if-word-ne-MARK.false _ c.word-nodes.ensures
+    at_3 (plain_as c.args.dialect c.args.words.now) c.if-length-lt4.false _ c.word.ensures c.if-word-ne-MARK.false _ c.word-nodes.ensures
     (inside 1 (most_nodes c.args.dialect) c.word-nodes.result (omega arith) (omega arith)) _ c.word-quantifiers.ensures (omega arith) c.if-length-nodes.true
 
 pub returns : goal.returns

@@ -1,3 +1,6 @@
+-- `decide` meets its contract. Assumes nothing.
+use Rattle.std.proofs.Common.{Ok, Err}
+use Rattle.std.proofs.lemmas.Result.{err_from_is_err_and}
 use mathlib.Core.Path.{sym, ap, ◌∙◌}
 use native.Mathlib.Omega.{arith}
 use Rattle.checker.specs.Words.{claim_of}
@@ -9,18 +12,20 @@ use Rattle.decider.proofs.decide.Goals as goal
 pub rule_on-requires : goal.rule_on-requires
 rule_on-requires c =
     record {
-      words_value = sym c.admit-admitted.ensures ∙ c.in-Accepted.is;
+      words_value = sym c.admit.ensures ∙ c.in_ok-shape.was;
       taken_bound = omega arith;
     }
 
-pub returns-in-Accepted : goal.returns-in-Accepted
+pub returns-in_err-shape : goal.returns-in_err-shape
 unfolding decided decision_of
-returns-in-Accepted c =
-    let r = ruling c.args.n (claim_of c.args.words.now) in
-    c.decision_of.ensures ∙ ap said c.rule_on.ensures ∙ said_is r c.args.allowance
-    ∙ ap (decided r c.args.allowance) (sym c.in-Accepted.is ∙ c.admit-admitted.ensures)
+returns-in_err-shape c =
+    let r = err_from_is_err_and c.from_residual.result c.from_residual.ensures.1 in
+    r.1 ∙ ap Err r.2
+    ∙ ap (decided (ruling c.args.n (claim_of c.args.words.now)) c.args.allowance) (sym c.in_err-shape.was ∙ c.admit.ensures)
 
-pub returns-in-Refused : goal.returns-in-Refused
+pub returns : goal.returns
 unfolding decided decision_of
-returns-in-Refused c =
-    ap (decided (ruling c.args.n (claim_of c.args.words.now)) c.args.allowance) (sym c.in-Refused.is ∙ c.admit-admitted.ensures)
+returns c =
+    let r = ruling c.args.n (claim_of c.args.words.now) in
+    ap Ok (c.decision_of.ensures ∙ ap said c.rule_on.ensures ∙ said_is r c.args.allowance)
+    ∙ ap (decided r c.args.allowance) (sym c.in_ok-shape.was ∙ c.admit.ensures)

@@ -3,12 +3,12 @@ use mathlib.Core.Path.{sym, ◌∙◌}
 use Rattle.exports.specs.Rows.{check_row}
 use Rattle.exports.proofs.zuccarvento_check.Goals as goal
 
-pub returns-in-Accepted : goal.returns-in-Accepted
+pub returns-in-Ok : goal.returns-in-Ok
 unfolding check_row
-returns-in-Accepted c =
-    rw (sym c.check.ensures ∙ c.in-Accepted.is) c.put_row.ensures
+returns-in-Ok c =
+    rw (sym c.check.ensures ∙ c.in-Ok.is) c.put_row.ensures
 
-pub returns-in-Refused : goal.returns-in-Refused
+pub returns-in-Err : goal.returns-in-Err
 unfolding check_row
-returns-in-Refused c =
-    rw (sym c.check.ensures ∙ c.in-Refused.is) c.put_refusal.ensures
+returns-in-Err c =
+    rw (sym c.check.ensures ∙ c.in-Err.is) c.put_refusal.ensures

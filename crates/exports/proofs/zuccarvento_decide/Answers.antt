@@ -3,22 +3,22 @@ use mathlib.Core.Path.{sym, ◌∙◌}
 use Rattle.exports.specs.Rows.{decide_row}
 use Rattle.exports.proofs.zuccarvento_decide.Goals as goal
 
-pub returns-in-True : goal.returns-in-True
+pub returns-in-Ok-True : goal.returns-in-Ok-True
 unfolding decide_row
-returns-in-True c =
-    rw (sym c.decide.ensures ∙ c.in-True.is) c.put_value.ensures
+returns-in-Ok-True c =
+    rw (sym c.decide.ensures ∙ c.in-Ok-True.is, c.in-Ok-True.field-0-is) c.put_value.ensures
 
-pub returns-in-False : goal.returns-in-False
+pub returns-in-Ok-False : goal.returns-in-Ok-False
 unfolding decide_row
-returns-in-False c =
-    rw (sym c.decide.ensures ∙ c.in-False.is) c.put_value-in-False.ensures
+returns-in-Ok-False c =
+    rw (sym c.decide.ensures ∙ c.in-Ok-False.is, c.in-Ok-False.field-0-is) c.put_value-in-Ok-False.ensures
 
-pub returns-in-Spent : goal.returns-in-Spent
+pub returns-in-Ok-Spent : goal.returns-in-Ok-Spent
 unfolding decide_row
-returns-in-Spent c =
-    rw (sym c.decide.ensures ∙ c.in-Spent.is) c.put_value-in-Spent.ensures
+returns-in-Ok-Spent c =
+    rw (sym c.decide.ensures ∙ c.in-Ok-Spent.is, c.in-Ok-Spent.field-0-is) c.put_value-in-Ok-Spent.ensures
 
-pub returns-in-Refused : goal.returns-in-Refused
+pub returns-in-Err : goal.returns-in-Err
 unfolding decide_row
-returns-in-Refused c =
-    rw (sym c.decide.ensures ∙ c.in-Refused.is) c.put_refusal.ensures
+returns-in-Err c =
+    rw (sym c.decide.ensures ∙ c.in-Err.is) c.put_refusal.ensures

@@ -3,20 +3,20 @@ use mathlib.Core.Path.{sym, ◌∙◌}
 use Rattle.exports.specs.Rows.{reduce_row}
 use Rattle.exports.proofs.zuccarvento_reduce.Goals as goal
 
-pub returns-in-Emitted : goal.returns-in-Emitted
+pub returns-in-Ok : goal.returns-in-Ok
 unfolding reduce_row
-returns-in-Emitted c =
+returns-in-Ok c =
     let made = c.reduce.ensures in
     record {
-      row_after = rw (sym made.value ∙ c.in-Emitted.is) c.put_value.ensures;
+      row_after = rw (sym made.value ∙ c.in-Ok.is) c.put_value.ensures;
       out_after = made.out_after;
     }
 
-pub returns-in-Refused : goal.returns-in-Refused
+pub returns-in-Err : goal.returns-in-Err
 unfolding reduce_row
-returns-in-Refused c =
+returns-in-Err c =
     let made = c.reduce.ensures in
     record {
-      row_after = rw (sym made.value ∙ c.in-Refused.is) c.put_refusal.ensures;
+      row_after = rw (sym made.value ∙ c.in-Err.is) c.put_refusal.ensures;
       out_after = made.out_after;
     }

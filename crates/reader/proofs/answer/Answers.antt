@@ -1,12 +1,10 @@
 -- `reader::answer` meets its contract. Assumes nothing.
 use mathlib.Core.Path.{sym, ◌∙◌}
 use lib.ListN.{length}
-use Rattle.checker.specs.Check.{refusal}
 use Rattle.reader.proofs.Answers.{answered_21, answered_8, answered, out_refused, out_answered}
 use Rattle.reader.proofs.answer.Goals as goal
 
 pub returns-then-not-written : goal.returns-then-not-written
-unfolding refusal
 returns-then-not-written c =
     let a = c.args in
     let no = sym c.written.ensures ∙ c.if-not-written.true in
@@ -17,7 +15,6 @@ returns-then-not-written c =
     }
 
 pub returns-then-out-needed : goal.returns-then-out-needed
-unfolding refusal
 returns-then-out-needed c =
     let a = c.args in
     let yes = sym c.written.ensures ∙ c.if-not-written.false in

@@ -6,12 +6,12 @@ use Rattle.reader.proofs.written.Goals as goal
 
 pub same_text-requires : goal.same_text-requires
 same_text-requires c =
-    laid _ _ (sym c.check_as-checked.ensures ∙ c.in-Accepted.is)
+    laid _ _ (sym c.check_as.ensures ∙ c.in-Ok.is)
 
-pub returns-in-Accepted : goal.returns-in-Accepted
-returns-in-Accepted c =
-    c.same_text.ensures ∙ accepted_writes _ _ (sym c.check_as-checked.ensures ∙ c.in-Accepted.is)
+pub returns-in-Ok : goal.returns-in-Ok
+returns-in-Ok c =
+    c.same_text.ensures ∙ accepted_writes _ _ (sym c.check_as.ensures ∙ c.in-Ok.is)
 
-pub returns-in-Refused : goal.returns-in-Refused
-returns-in-Refused c =
-    refused_writes _ _ (sym c.check_as-checked.ensures ∙ c.in-Refused.is)
+pub returns-in-Err : goal.returns-in-Err
+returns-in-Err c =
+    refused_writes _ _ (sym c.check_as.ensures ∙ c.in-Err.is)

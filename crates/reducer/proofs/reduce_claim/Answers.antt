@@ -1,5 +1,7 @@
 -- `reducer::reduce_claim` meets its contract: what is admitted is written, and what is refused leaves
 -- `out` as it was. Assumes nothing.
+use Rattle.std.proofs.Common.{ap, Err}
+use Rattle.std.proofs.lemmas.Result.{err_from_is_err_and}
 use mathlib.Core.Path.{sym, ◌∙◌}
 use native.Mathlib.Omega.{arith}
 use lib.ListN.{length}
@@ -19,7 +21,7 @@ put_emission-requires c =
     let claim = emission (claim_of c.args.words.now) in
     let first = c.count-first.ensures.nodes_value in
     let size = c.emitted-size.ensures in
-    let passed = sym (c.admit-admitted.ensures claim size.nodes_value size.quantifiers_value) ∙ c.in-Accepted.is in record {
+    let passed = sym (c.admit.ensures claim size.nodes_value size.quantifiers_value) ∙ c.in_ok-admit.was in record {
       prepared = (
         record { accepted = c.requires.0; planned = c.make.ensures.planned },
         record { nodes = first.0; root = first.1 },
@@ -28,21 +30,23 @@ put_emission-requires c =
       words_in_bounds = admitted_room claim (length c.args.out.now) c.args.shape passed;
     }
 
-pub returns-in-Accepted : goal.returns-in-Accepted
-returns-in-Accepted c =
+pub returns : goal.returns
+returns c =
     let claim = emission (claim_of c.args.words.now) in
     let size = c.emitted-size.ensures in
-    let passed = sym (c.admit-admitted.ensures claim size.nodes_value size.quantifiers_value) ∙ c.in-Accepted.is in
+    let passed = sym (c.admit.ensures claim size.nodes_value size.quantifiers_value) ∙ c.in_ok-admit.was in
     let put = c.put_emission.ensures in
     record {
       value = emitted_answer claim put passed;
       out_after = emitted_held claim put (admitted_room claim (length c.args.out.now) c.args.shape passed);
     }
 
-pub returns-in-Refused : goal.returns-in-Refused
-returns-in-Refused c =
+pub returns-in_err-admit : goal.returns-in_err-admit
+returns-in_err-admit c =
     let claim = emission (claim_of c.args.words.now) in
-    let size = c.emitted-size.ensures in record {
-      value = refused_answer claim (sym (c.admit-admitted.ensures claim size.nodes_value size.quantifiers_value) ∙ c.in-Refused.is);
-      out_after = refused_held claim _ c.args.out.now;
+    let size = c.emitted-size.ensures in
+    let r = err_from_is_err_and c.from_residual.result c.from_residual.ensures.1 in
+    record {
+      value = r.1 ∙ ap Err r.2 ∙ refused_answer claim (sym (c.admit.ensures claim size.nodes_value size.quantifiers_value) ∙ c.in_err-admit.was);
+      out_after = rw r.1 (refused_held claim _ c.args.out.now);
     }

@@ -9,27 +9,27 @@ use Rattle.smt_text.proofs.smt_words.Goals as goal
 pub slice_bounds-emission-end : goal.slice_bounds-emission-end
 slice_bounds-emission-end c =
     let made = c.reduce.ensures in
-    emitted_within _ _ _ _ made.value made.out_after c.in-Emitted.is
+    emitted_within _ _ _ _ made.value made.out_after c.in-Ok.is
 
 pub slice_bounds-put_text-end : goal.slice_bounds-put_text-end
 slice_bounds-put_text-end c =
     let made = c.reduce.ensures in
-    sym (length-take-le _ c.reduce.new.out (emitted_within _ _ _ _ made.value made.out_after c.in-Emitted.is))
+    sym (length-take-le _ c.reduce.new.out (emitted_within _ _ _ _ made.value made.out_after c.in-Ok.is))
 
 pub put_text-requires : goal.put_text-requires
 put_text-requires c =
     let made = c.reduce.ensures in
-    emission_taken _ _ _ _ made.value made.out_after c.in-Emitted.is
+    emission_taken _ _ _ _ made.value made.out_after c.in-Ok.is
 
-pub returns-in-Emitted : goal.returns-in-Emitted
+pub returns-in-Ok : goal.returns-in-Ok
 unfolding fitted_words fitted_reduced
-returns-in-Emitted c =
+returns-in-Ok c =
     let made = c.reduce.ensures in
-    let is = c.in-Emitted.is in
+    let is = c.in-Ok.is in
     rw (sym made.value ∙ is, ← emitted_claim _ _ _ _ made.value made.out_after is) c.put_text.ensures
 
-pub returns-in-Refused : goal.returns-in-Refused
+pub returns-in-Err : goal.returns-in-Err
 unfolding fitted_words fitted_reduced
-returns-in-Refused c =
+returns-in-Err c =
     let made = c.reduce.ensures in
-    rw (sym made.value ∙ c.in-Refused.is) c.put_refusal.ensures
+    rw (sym made.value ∙ c.in-Err.is) c.put_refusal.ensures

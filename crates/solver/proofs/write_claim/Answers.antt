@@ -3,13 +3,11 @@ use Prim.Native.Nat.{◌≤◌}
 use native.Mathlib.Omega.{arith}
 use lib.ListN.{length}
 use Rattle.checker.specs.Words.{claim_of}
-use Rattle.checker.specs.Check.{refusal}
 use Rattle.sentence.specs.Text.{text_of}
 use Rattle.solver.proofs.Answers.{too_short, refused_held, written_fitted, written_held}
 use Rattle.solver.proofs.write_claim.Goals as goal
 
 pub returns-then-out-needed : goal.returns-then-out-needed
-unfolding refusal
 returns-then-out-needed c =
     let claim = claim_of c.args.words.now in
     record {

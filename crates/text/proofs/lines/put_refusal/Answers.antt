@@ -1,4 +1,5 @@
 -- `text::lines::put_refusal` meets its contract. Assumes nothing.
+use mathlib.Core.Path.{sym}
 use native.Mathlib.Omega.{arith}
 use Rattle.lent.proofs.Writing.{wrote_then}
 use Rattle.text.specs.Answer.{refusal_text}
@@ -11,4 +12,4 @@ returns c =
     let number = c.put_mark-place.ensures in
     let place = c.put_mark-end.ensures in
     let end = c.put_byte.ensures in
-    printed (wrote_then number.wrote (wrote_then place.wrote end)) (omega (arith, number.upper_bound, place.upper_bound, end.after, c.requires))
+    rw (sym c.number.ensures, sym c.place.ensures) (printed (wrote_then number.wrote (wrote_then place.wrote end)) (omega (arith, number.upper_bound, place.upper_bound, end.after, c.requires)))

@@ -1,9 +1,8 @@
 -- `text::lines::put_unread` meets its contract. Assumes nothing.
-use Rattle.checker.specs.Check.{refusal}
 use Rattle.text.specs.Answer.{unread}
 use Rattle.text.proofs.lines.put_unread.Goals as goal
 
 pub returns : goal.returns
-unfolding unread refusal
+unfolding unread
 returns c =
     c.put_refusal.ensures
