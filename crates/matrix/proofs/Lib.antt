@@ -2,6 +2,7 @@
 mod Absolute
 mod Words
 mod Rows
+mod Kindwise
 mod Arms
 pub mod Build
 pub mod Bounded

@@ -7,48 +7,24 @@ use native.Mathlib.Omega.{arith}
 use borrow.Author.Tests.{eqb-true, eqb-false}
 use lib.Dec.{eqb}
 use lib.IntN.{ℤ}
-use lib.ListN.{length, get_or, set, take}
-use lib.Seq.{take-nil, get_or-set_same, get_or-set_other}
-use Rattle.checker.specs.Claim.{Node, unknown, Claim}
-use Rattle.checker.specs.Kinds.{number, sort_table, node_of}
+use lib.ListN.{length, get_or, set}
+use lib.Seq.{get_or-set_same, get_or-set_other}
+use Rattle.checker.specs.Claim.{unknown, Claim}
+use Rattle.checker.specs.declared.Shape.{Shape}
+use Rattle.std.proofs.Common.{Ok}
+use Rattle.checker.specs.Words.{node_at, claim_of}
+use Rattle.checker.specs.Check.{check_of}
+use Rattle.checker.proofs.Claims.{node_at_lem, sound}
 use Rattle.checker.specs.Sorts.{AllFit}
 use Rattle.checker.specs.Search.{count}
 use Rattle.checker.proofs.Search.{count_le}
-use Rattle.matrix.specs.declared.order.Operands.{Operands}
 use Rattle.matrix.specs.Work.{children, Every}
-use Rattle.matrix.specs.Arranged.{listed, marked, Marked}
+use Rattle.matrix.specs.Arranged.{marked, Marked}
 use Rattle.matrix.proofs.Known.{children_below}
-use Rattle.checker.proofs.Rowwise.{◌▸◌}
-use Rattle.matrix.proofs.Rows.{AllRows, in_table}
 
 pub every_map : (P Q : ℕ → Type 0) → ((x : ℕ) → P x → Q x) → (l : List ℕ) → Every P l → Every Q l
 every_map P Q f [] e = tt
 every_map P Q f (x ∷ l) e = (f x e.0, every_map P Q f l e.1)
-
--- ---- what operands list
-
-module _ (o : Operands) where
-  pub lists_none : o.count ≡ 0 → listed o ≡ []
-  lists_none e = rw e
-
-  pub lists_one : o.count ≡ 1 → listed o ≡ o.first ∷ []
-  lists_one e = rw e
-
-  pub lists_two : (o.count ≡ 0 → ⊥) → (o.count ≡ 1 → ⊥) → listed o ≡ o.first ∷ o.second ∷ []
-  lists_two h k = go o.count h k
-    where
-      go : (n : ℕ) → (n ≡ 0 → ⊥) → (n ≡ 1 → ⊥) → take n (o.first ∷ o.second ∷ []) ≡ o.first ∷ o.second ∷ []
-      go zero h k = absurd (h refl)
-      go (suc zero) h k = absurd (k refl)
-      go (suc (suc n)) h k = ap (λ l. o.first ∷ o.second ∷ l) (take-nil n)
-
-  -- some operand, and its first
-  pub lists_first : (P : ℕ → Type 0) → (o.count ≡ 0 → ⊥) → Every P (listed o) → P o.first
-  lists_first P h e = go o.count h e
-    where
-      go : (n : ℕ) → (n ≡ 0 → ⊥) → Every P (take n (o.first ∷ o.second ∷ [])) → P o.first
-      go zero h e = absurd (h refl)
-      go (suc n) h e = e.0
 
 -- ---- one mark more
 
@@ -130,36 +106,18 @@ module _ (marks : List Bool) (i : ℕ) (h : i < length marks) (new : marked mark
           let z : n ≡ i → ⊥ = eqb-false n i t in
           omega (arith, r (omega arith), bit_le (marked marks n))
 
--- ---- the kinds without children that have numbers
+-- ---- the children of a node in accepted words
 
-pub record Leaf (m : ℕ) : Type 0 where
-  pub terms : (m ≡ 13 → ⊥) × (m ≡ 14 → ⊥) × (m ≡ 15 → ⊥)
-  pub tests : (m ≡ 20 → ⊥) × (m ≡ 21 → ⊥) × (m ≡ 22 → ⊥)
-  pub joins : (m ≡ 25 → ⊥) × (m ≡ 26 → ⊥) × (m ≡ 27 → ⊥)
+module _ (ws : List ℤ) (s : Shape) (e : check_of ws ≡ Ok s) (i : ℕ) (h : i < s.nodes) where
+  pub node_is : get_or (claim_of ws).nodes i unknown ≡ node_at ws i
+  node_is = node_at_lem ws i (omega (arith, (sound ws s e).nodes))
 
-abbrev None : ℕ → Node → Type 0
-None m n = Leaf m → [] ≡ children n
-
-rows : (a b : ℤ) → AllRows None a b sort_table
-unfolding children
-rows a b =
-    (λ o. refl) ▸ (λ o. refl) ▸ (λ o. refl) ▸ (λ o. refl) ▸ (λ o. refl) ▸ (λ o. refl) ▸ (λ o. refl) ▸ (λ o. refl) ▸ (λ o. refl)
-    ▸ (λ o. absurd (o.terms.0 refl))
-    ▸ (λ o. absurd (o.terms.1 refl))
-    ▸ (λ o. absurd (o.terms.2 refl))
-    ▸ (λ o. refl)
-    ▸ (λ o. absurd (o.tests.0 refl))
-    ▸ (λ o. absurd (o.tests.1 refl))
-    ▸ (λ o. absurd (o.tests.2 refl))
-    ▸ (λ o. refl) ▸ (λ o. refl)
-    ▸ (λ o. absurd (o.joins.0 refl))
-    ▸ (λ o. absurd (o.joins.1 refl))
-    ▸ (λ o. absurd (o.joins.2 refl))
-    ▸ tt
-
-pub no_children : (z a b : ℤ) → Leaf (number z) → [] ≡ children (node_of z a b)
-unfolding children
-no_children z a b o = in_table None z a b (rows a b) (λ m o. refl) o
+  -- they are earlier nodes
+  pub children_within : (n : ℕ) → i ≤ n → (l : List ℕ) → l ≡ children (node_at ws i) → Every (λ x. x < n) l
+  children_within n k l z =
+      rw (z, ← node_is)
+      (every_map (λ x. x < i) (λ x. x < n) (λ x m. omega arith) (children (get_or (claim_of ws).nodes i unknown))
+      (children_below (claim_of ws) (sound ws s e).sorted.0 i (omega (arith, (sound ws s e).nodes))))
 
 -- ---- the nodes that are needed, from the last node down
 

@@ -1,41 +1,48 @@
 -- The bit of a set in a region's number: how many sets stand inside it, counted over the quantifiers' words. Assumes nothing.
-use mathlib.Core.Path.{◌≡◌, refl, sym, ◌∙◌}
-use mathlib.Core.Bool.{true, false, cond, true≢false}
+use mathlib.Core.Path.{◌≡◌, refl, sym}
+use mathlib.Core.Bool.{Bool, true, false, cond, ◌||◌, true≢false}
 use mathlib.Core.List.{List, [], ◌∷◌}
-use Prim.Native.Nat.{ℕ, zero, suc, ◌+◌, ◌<◌}
+use Prim.Native.Nat.{ℕ, zero, suc, ◌+◌, ◌*◌, ◌<◌}
 use native.Mathlib.Numerals.{add-one}
 use native.Mathlib.Omega.{arith}
-use borrow.Author.Tests.{ne_eqb}
+use Rattle.std.proofs.lemmas.Bool.Decides.{nat_tests}
 use lib.Dec.{eqb}
 use lib.IntN.{ℤ}
-use lib.ListN.{length, get_or, drop}
+use lib.ListN.{length, get_or, drop, drop_of_length-le}
+use Rattle.std.specs.List.{filter, range_with_len}
 use lib.Seq.{drop-cons}
+use Rattle.checker.specs.declared.Shape.{Shape}
+use Rattle.std.proofs.Common.{Ok}
 use Rattle.checker.specs.Claim.{Quantifier, int_q, set_q, count_q}
 use Rattle.checker.specs.Kinds.{number, quantifier_of}
+use Rattle.checker.specs.Words.{word, word_at, claim_of}
+use Rattle.checker.specs.Check.{check_of}
 use Rattle.checker.specs.Sorts.{is_set_q, sets}
+use Rattle.checker.proofs.Claims.{node_count_lem, quantifier_in, sound}
 use Rattle.checker.specs.Meaning.{set_at}
 use Rattle.region.specs.Pattern.{covers}
 use Rattle.matrix.specs.Final.{final_values}
 
 -- ---- quantifiers by their words
 
-kind_sets : (m : ℕ) → (m ≡ 3 → ⊥) → eqb m 4 ≡ is_set_q (get_or (int_q true ∷ int_q true ∷ int_q false ∷ set_q true ∷ set_q false ∷ count_q true ∷ count_q false ∷ []) m (int_q true))
-kind_sets zero h = refl
-kind_sets (suc zero) h = refl
-kind_sets (suc (suc zero)) h = refl
-kind_sets (suc (suc (suc zero))) h = absurd (h refl)
-kind_sets (suc (suc (suc (suc zero)))) h = refl
-kind_sets (suc (suc (suc (suc (suc zero))))) h = refl
-kind_sets (suc (suc (suc (suc (suc (suc zero)))))) h = refl
-kind_sets (suc (suc (suc (suc (suc (suc (suc m))))))) h = ne_eqb (suc (suc (suc (suc (suc (suc (suc m))))))) 4 (λ e. omega arith)
+kind_sets : (m : ℕ) → (eqb m 3 || eqb m 4) ≡ is_set_q (get_or (int_q true ∷ int_q true ∷ int_q false ∷ set_q true ∷ set_q false ∷ count_q true ∷ count_q false ∷ []) m (int_q true))
+kind_sets zero = refl
+kind_sets (suc zero) = refl
+kind_sets (suc (suc zero)) = refl
+kind_sets (suc (suc (suc zero))) = refl
+kind_sets (suc (suc (suc (suc zero)))) = refl
+kind_sets (suc (suc (suc (suc (suc zero))))) = refl
+kind_sets (suc (suc (suc (suc (suc (suc zero)))))) = refl
+kind_sets (suc (suc (suc (suc (suc (suc (suc m))))))) = grind (arith, nat_tests)
 
-pub kind_3 : (z : ℤ) → number z ≡ 3 → true ≡ is_set_q (quantifier_of z)
-unfolding quantifier_of
-kind_3 z e = rw e
-
-pub kind_4 : (z : ℤ) → (number z ≡ 3 → ⊥) → eqb (number z) 4 ≡ is_set_q (quantifier_of z)
-unfolding quantifier_of
-kind_4 z h = kind_sets (number z) h
+-- the first part shows `grind` the call to match
+pub set_words : (ws : List ℤ) (s : Shape) (j : ℕ) → check_of ws ≡ Ok s → j < s.quantifiers
+    → (word_at ws (3 * s.nodes + j) ≡ word_at ws (3 * s.nodes + j))
+    × ((eqb (word_at ws (3 * s.nodes + j)) 3 || eqb (word_at ws (3 * s.nodes + j)) 4) ≡ is_set_q (get_or (claim_of ws).quantifiers j (int_q true)))
+unfolding word_at quantifier_of
+set_words ws s j e h =
+    let ok = sound ws s e in
+    (refl, rw (quantifier_in ws j (omega (arith, ok.quantifiers)), ← node_count_lem ws, ← ok.nodes) (kind_sets (number (word ws (3 * s.nodes + j)))))
 
 -- ---- one quantifier further
 
@@ -49,11 +56,15 @@ module _ (qs : List Quantifier) (j : ℕ) (h : j < length qs) where
   from : sets (drop j qs) ≡ sets (drop (j + 1) qs) + cond (is_set_q (get_or qs j (int_q true))) 1 0
   from = rw (drop-cons qs j (int_q true) h, add-one j) (sets-cons (get_or qs j (int_q true)) (drop (suc j) qs))
 
-  pub sets_yes : is_set_q (get_or qs j (int_q true)) ≡ true → sets (drop j qs) ≡ sets (drop (j + 1) qs) + 1
-  sets_yes e = from ∙ rw e
-
-  pub sets_no : is_set_q (get_or qs j (int_q true)) ≡ false → sets (drop j qs) ≡ sets (drop (j + 1) qs)
-  sets_no e = from ∙ rw e (omega arith)
+-- how many quantifiers from j on range over sets
+pub sets_filtered : (qs : List Quantifier) (n j : ℕ) → j + n ≡ length qs → length (filter (λ i. is_set_q (get_or qs i (int_q true))) (range_with_len j n)) ≡ sets (drop j qs)
+unfolding sets
+sets_filtered qs zero j e = rw (drop_of_length-le qs {i = j} (omega arith))
+sets_filtered qs (suc n) j e = rw (from qs j (omega arith)) (go (is_set_q (get_or qs j (int_q true))) _ _ (sets_filtered qs n (j + 1) (omega arith)))
+  where
+    go : (b : Bool) (xs : List ℕ) (m : ℕ) → length xs ≡ m → length (cond b (j ∷ xs) xs) ≡ m + cond b 1 0
+    go true xs m h = omega arith
+    go false xs m h = omega arith
 
 -- ---- the regions of quantifier q's set
 

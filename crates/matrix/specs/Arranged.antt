@@ -1,15 +1,18 @@
 -- How the order is made: which nodes the root needs, how many regions settle each entry, and what stands while nodes are placed.
 -- Assumes nothing.
-use Rattle.std.specs.Prelude.{◌≡◌, Bool, true, false, List, [], ◌∷◌, ℕ, ◌≤◌, ◌<◌, length, get_or, take}
+use Rattle.std.specs.Prelude.{◌≡◌, Bool, true, false, List, [], ◌∷◌, ℕ, ◌≤◌, ◌<◌, length, get_or}
 use Rattle.checker.specs.Claim.{unknown, Claim}
 use Rattle.checker.specs.Search.{count}
 use Rattle.matrix.specs.declared.order.Operands.{Operands}
+use Rattle.matrix.specs.declared.order.Operands.TheVariants.{Nothing, One, Two}
 use Rattle.matrix.specs.Work.{children, Every}
 use Rattle.matrix.specs.Order.{Has, Order}
 
 -- the nodes that operands name
 abbrev pub listed : Operands → List ℕ
-listed o = take o.count (o.first ∷ o.second ∷ [])
+listed Nothing = []
+listed (One a) = a ∷ []
+listed (Two a b) = a ∷ b ∷ []
 
 -- node i is marked
 abbrev pub marked : List Bool → ℕ → Bool

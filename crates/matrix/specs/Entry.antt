@@ -1,12 +1,15 @@
 -- The table of patterns, one entry a node (01, "Regions"): which regions each entry covers, so that a value asks only how many ports are there.
 -- Assumes nothing.
-use Rattle.std.specs.Prelude.{◌≡◌, true, false, not, ◌&&◌, ◌||◌, List, [], ℕ, ◌<◌, ◌≤◌, ◌^◌, ltb, length, get_or, take}
+use Rattle.std.specs.Prelude.{◌≡◌, true, false, not, ◌&&◌, ◌||◌, List, [], ℤ, ℕ, ◌<◌, ◌≤◌, ◌^◌, ltb, length, get_or, take, Ok}
 use Rattle.std.specs.Bool.{xor}
+use Rattle.checker.specs.declared.Shape.{Shape}
 use Rattle.checker.specs.Claim.{Node, set_var, empty, whole, union, inter, compl, num_var, const, maxc, sum, diff, multiple, card, equal, less, divided, set_equal, subset, conj, disj, neg, unknown, Claim}
+use Rattle.checker.specs.Words.{claim_of}
+use Rattle.checker.specs.Check.{check_of}
 use Rattle.checker.specs.Sorts.{sets}
 use Rattle.checker.specs.Meaning.{Set, Value, World, set_at, values}
 use Rattle.region.specs.Regions.{minus}
-use Rattle.region.specs.Pattern.{entries, room_in, covers_at}
+use Rattle.region.specs.Pattern.{entries, room_in, covers_at, Roomy}
 use Rattle.matrix.specs.Final.{final_values}
 
 -- What the entry of a node covers, from the quantifiers' values `qs` and the earlier nodes' values `vs`: a set node's own regions, those that a
@@ -50,3 +53,10 @@ pub record Filled (c : Claim) (n : ℕ) (patterns : List ℕ) : Type 0 where
 pub record Beyond (n : ℕ) (before after : List ℕ) : Type 0 where
   pub long : length after ≡ length before
   pub kept : (i : ℕ) → n ≤ i → (r : ℕ) → covers_at after i r ≡ covers_at before i r
+
+-- The entry of node i can be filled: the checker accepts the words, there is room, and the entries of the nodes before it stand.
+pub record Next (ws : List ℤ) (shape : Shape) (i : ℕ) (patterns : List ℕ) : Type 0 where
+  pub accepted : check_of ws ≡ Ok shape
+  pub node : i < shape.nodes
+  pub roomy : Roomy shape patterns
+  pub filled : Filled (claim_of ws) i patterns

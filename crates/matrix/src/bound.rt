@@ -8,27 +8,15 @@ use checker::Shape;
 
 const MAX_BOUND: u64 = 1000000000;
 
-pub fn magnitude(w: i32) -> u64
-    ensures { result ≡ nat_abs w }
-{
-    let z = w as i64;
-    if z < 0 {
-        return (0 - z) as u64;
-    }
-    z as u64
-}
-
 // The bound of an earlier node, 0 where there is none.
 pub fn bound_at(bounds: &[u64], a: usize) -> u64
     ensures { result ≡ get_or bounds.now a 0 }
 {
-    if a < bounds.len() {
-        return bounds[a];
-    }
-    0
+    bounds.get(a).copied().unwrap_or(0)
 }
 
 // The bound of node i, from those of the nodes before it. None of these is too large, so that no sum or product is.
+#[tactic(auto, using(std::proofs::lemmas::Bool::Decides::nat_tests, crate::proofs::Kindwise::bound_is))]
 pub fn bound_of(words: &[i32], bounds: &[u64], i: usize, size: u32) -> u64
     requires i_in_bounds { 3 * i + 3 ≤ length words.now }
     requires by_index { (j : ℕ) → get_or bounds.now j 0 ≤ max_bound }
@@ -38,12 +26,10 @@ pub fn bound_of(words: &[i32], bounds: &[u64], i: usize, size: u32) -> u64
     let a = checker::word(words, 3 * i + 1);
     let b = checker::word(words, 3 * i + 2);
     match kind {
-        11 => magnitude(words[3 * i + 1]),
-        12 => size as u64,
-        13 => bound_at(bounds, a) + bound_at(bounds, b),
-        14 => bound_at(bounds, a) + bound_at(bounds, b),
-        15 => magnitude(words[3 * i + 1]) * bound_at(bounds, b),
-        16 => size as u64,
+        11 => u64::from(words[3 * i + 1].unsigned_abs()),
+        12 | 16 => u64::from(size),
+        13 | 14 => bound_at(bounds, a) + bound_at(bounds, b),
+        15 => u64::from(words[3 * i + 1].unsigned_abs()) * bound_at(bounds, b),
         _ => 0,
     }
 }
@@ -53,16 +39,13 @@ pub fn first_over(words: &[i32], shape: Shape, size: u32) -> usize
     requires { check_of words.now ≡ Ok shape }
     ensures { result ≡ first_over size (claim_of words.now) }
 {
-    let nodes = shape.nodes;
     let mut bounds = [0u64; 1024];
-    let mut i = 0;
-    while i < nodes {
+    for i in 0..shape.nodes {
         let b = bound_of(words, &bounds[..i], i, size);
         if MAX_BOUND < b {
             return i;
         }
         bounds[i] = b;
-        i += 1;
     }
-    i
+    shape.nodes
 }

@@ -1,5 +1,5 @@
 // The order in which nodes are worked out: those that the root needs, children first, and among them those first that few regions settle.
-ghost use Rattle.std.specs.Prelude.{◌≡◌, true, false, [], ◌∷◌, ℕ, ◌+◌, ◌*◌, ◌^◌, ◌≤◌, ◌<◌, length, get_or};
+ghost use Rattle.std.specs.Prelude.{◌≡◌, ◌↔◌, IsTrue, true, ℕ, ◌+◌, ◌*◌, ◌^◌, ◌≤◌, ◌<◌, length, get_or};
 ghost use Rattle.checker.specs.Words.{node_at, claim_of};
 ghost use Rattle.checker.specs.Check.{max_sets, check_of};
 ghost use Rattle.region.specs.Pattern.{entries, covers_at, End};
@@ -11,45 +11,16 @@ ghost use Rattle.matrix.specs.Known.{Scheduled};
 
 use checker::Shape;
 
-// The nodes whose numbers a node's own is worked out from: none, the first, or both.
+// The nodes whose numbers a node's own is worked out from.
 #[derive(Drop)]
-pub struct Operands {
-    pub count: usize,
-    pub first: usize,
-    pub second: usize,
-}
-
-fn two(a: usize, b: usize) -> Operands
-    ensures { listed result ≡ a ∷ b ∷ [] }
-{
-    Operands {
-        count: 2,
-        first: a,
-        second: b,
-    }
-}
-
-fn one(a: usize) -> Operands
-    ensures { listed result ≡ a ∷ [] }
-{
-    Operands {
-        count: 1,
-        first: a,
-        second: a,
-    }
-}
-
-fn none() -> Operands
-    ensures { listed result ≡ [] }
-{
-    Operands {
-        count: 0,
-        first: 0,
-        second: 0,
-    }
+pub enum Operands {
+    Nothing,
+    One(usize),
+    Two(usize, usize),
 }
 
 // The children of node i.
+#[tactic(auto, using(std::proofs::lemmas::Bool::Decides::nat_tests, crate::proofs::Kindwise::children_at))]
 fn operands_of(words: &[i32], i: usize) -> Operands
     requires { 3 * i + 3 ≤ length words.now }
     ensures { listed result ≡ children (node_at words.now i) }
@@ -58,34 +29,26 @@ fn operands_of(words: &[i32], i: usize) -> Operands
     let a = checker::word(words, 3 * i + 1);
     let b = checker::word(words, 3 * i + 2);
     match kind {
-        13 => two(a, b),
-        14 => two(a, b),
-        15 => one(b),
-        20 => two(a, b),
-        21 => two(a, b),
-        22 => one(b),
-        25 => two(a, b),
-        26 => two(a, b),
-        27 => one(a),
-        _ => none(),
+        13 | 14 | 20 | 21 | 25 | 26 => Operands::Two(a, b),
+        15 | 22 => Operands::One(b),
+        27 => Operands::One(a),
+        _ => Operands::Nothing,
     }
 }
 
 // Marks operands.
-fn mark(marks: &mut [bool], o: Operands)
-    requires { Every (λ x. x < length marks.old) (listed o) }
-    ensures { Marked marks.old (listed o) marks.new }
+fn mark(marks: &mut [bool], operands: Operands)
+    requires { Every (λ x. x < length marks.old) (listed operands) }
+    ensures { Marked marks.old (listed operands) marks.new }
 {
-    if o.count == 0 {
-        return;
+    match operands {
+        Operands::Nothing => {}
+        Operands::One(a) => marks[a] = true,
+        Operands::Two(a, b) => {
+            marks[a] = true;
+            marks[b] = true;
+        }
     }
-    let first = o.first;
-    marks[first] = true;
-    if o.count == 1 {
-        return;
-    }
-    let second = o.second;
-    marks[second] = true;
 }
 
 // Marks the nodes that the root needs, from the last node down.
@@ -94,11 +57,8 @@ fn mark_needed(words: &[i32], shape: Shape, marks: &mut [bool])
     requires nodes_in_bounds { shape.nodes ≤ length marks.old }
     ensures { Closed (claim_of words.now) marks.new }
 {
-    let root = shape.root;
-    marks[root] = true;
-    let mut i = shape.nodes;
-    while 0 < i {
-        i -= 1;
+    marks[shape.root] = true;
+    for i in (0..shape.nodes).rev() {
         if marks[i] {
             mark(marks, operands_of(words, i));
         }
@@ -106,22 +66,15 @@ fn mark_needed(words: &[i32], shape: Shape, marks: &mut [bool])
 }
 
 // Whether operands are all marked.
-fn all_marked(marks: &[bool], o: Operands) -> bool
-    requires { Every (λ x. x < length marks.now) (listed o) }
-    ensures { (result ≡ true → Every (λ x. marked marks.now x ≡ true) (listed o)) × (Every (λ x. marked marks.now x ≡ true) (listed o) → result ≡ true) }
+fn all_marked(marks: &[bool], operands: Operands) -> bool
+    requires { Every (λ x. x < length marks.now) (listed operands) }
+    ensures { IsTrue result ↔ Every (λ x. marked marks.now x ≡ true) (listed operands) }
 {
-    if o.count == 0 {
-        return true;
+    match operands {
+        Operands::Nothing => true,
+        Operands::One(a) => marks[a],
+        Operands::Two(a, b) => marks[a] && marks[b],
     }
-    let first = o.first;
-    if !marks[first] {
-        return false;
-    }
-    if o.count == 1 {
-        return true;
-    }
-    let second = o.second;
-    marks[second]
 }
 
 // How many of the first regions settle each of the first n entries: one more than the last that it covers.
@@ -129,11 +82,8 @@ fn fill_reach(patterns: &[u64], n: usize, reach: &mut [usize])
     requires { (n ≤ entries patterns.now) × (n ≤ length reach.old) }
     ensures { (i : ℕ) → i < n → End (covers_at patterns.now i) (get_or reach.new i 0) }
 {
-    let mut i = 0;
-    while i < n {
-        let e = region::end(patterns, i);
-        reach[i] = e;
-        i += 1;
+    for i in 0..n {
+        reach[i] = region::end(patterns, i);
     }
 }
 
@@ -149,19 +99,9 @@ fn placeable(
 ) -> bool
     requires words_value { check_of words.now ≡ Ok shape }
     requires i_lt_nodes { (i < shape.nodes) × (i < length needed.now) × (i < length placed.now) × (i < length reach.now) }
-    ensures placeable { result ≡ true → Placeable (claim_of words.now) needed.now placed.now reach.now m i }
-    ensures value { Placeable (claim_of words.now) needed.now placed.now reach.now m i → result ≡ true }
+    ensures { IsTrue result ↔ Placeable (claim_of words.now) needed.now placed.now reach.now m i }
 {
-    if !needed[i] {
-        return false;
-    }
-    if placed[i] {
-        return false;
-    }
-    if m < reach[i] {
-        return false;
-    }
-    all_marked(placed, operands_of(words, i))
+    needed[i] && !placed[i] && reach[i] <= m && all_marked(placed, operands_of(words, i))
 }
 
 // Places the nodes that can be, in node order. How many are placed then.
@@ -182,15 +122,11 @@ fn place(
     ensures placed_2 { Placed (claim_of words.now) placed.new order.new result }
     ensures passed { Passed (claim_of words.now) needed.now reach.now m order.old rows placed.new order.new result }
 {
-    let nodes = shape.nodes;
     let mut n = rows;
-    let mut i = 0;
-    while i < nodes {
-        let x = i;
-        i += 1;
-        if placeable(words, shape, needed, placed, reach, m, x) {
-            order[n] = x;
-            placed[x] = true;
+    for i in 0..shape.nodes {
+        if placeable(words, shape, needed, placed, reach, m, i) {
+            order[n] = i;
+            placed[i] = true;
             n += 1;
         }
     }
@@ -223,13 +159,10 @@ fn place_all(
     ensures placed_2 { Placed (claim_of words.now) placed.new order.new result }
     ensures ranked { Ranked (claim_of words.now) needed.now placed.new reach.now order.new result upto.new (2 ^ shape.sets) }
 {
-    let regions = regions_of(shape.sets);
     let mut n = 0;
-    let mut m = 0;
-    while m <= regions {
+    for m in 0..=regions_of(shape.sets) {
         n = place(words, shape, needed, reach, m, placed, order, n);
         upto[m] = n;
-        m += 1;
     }
     n
 }

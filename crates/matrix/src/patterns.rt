@@ -5,21 +5,18 @@ ghost use Rattle.checker.specs.Words.{claim_of};
 ghost use Rattle.checker.specs.Sorts.{is_set_q, sets};
 ghost use Rattle.checker.specs.Check.{check_of};
 ghost use Rattle.region.specs.Pattern.{Roomy};
-ghost use Rattle.matrix.specs.Entry.{Filled, Beyond};
+ghost use Rattle.matrix.specs.Entry.{Filled, Next, Beyond};
 
 use checker::Shape;
 
 // Whether quantifier j ranges over sets.
+#[tactic(auto, using(std::proofs::lemmas::Bool::Decides::nat_tests, crate::proofs::Positions::set_words))]
 pub fn over_sets(words: &[i32], shape: Shape, j: usize) -> bool
     requires words_value { check_of words.now ≡ Ok shape }
     requires j_lt_quantifiers { j < shape.quantifiers }
     ensures { result ≡ is_set_q (get_or (claim_of words.now).quantifiers j (int_q true)) }
 {
-    let kind = checker::word(words, 3 * shape.nodes + j);
-    if kind == 3 {
-        return true;
-    }
-    kind == 4
+    matches!(checker::word(words, 3 * shape.nodes + j), 3 | 4)
 }
 
 // The bit of a quantifier's set in a region's number: how many sets stand inside it.
@@ -28,24 +25,15 @@ fn position(words: &[i32], shape: Shape, q: usize) -> usize
     requires q_lt_quantifiers { q < shape.quantifiers }
     ensures { result ≡ sets (drop (q + 1) (claim_of words.now).quantifiers) }
 {
-    let quantifiers = shape.quantifiers;
-    let mut inside = 0;
-    let mut j = q + 1;
-    while j < quantifiers {
-        if over_sets(words, shape, j) {
-            inside += 1;
-        }
-        j += 1;
-    }
-    inside
+    (q + 1..shape.quantifiers)
+        .filter(|&j| over_sets(words, shape, j))
+        .count()
 }
 
 // Fills the entry of node i, where those of the nodes before it stand.
 fn put_entry(words: &[i32], shape: Shape, patterns: &mut [u64], i: usize)
-    requires words_value { check_of words.now ≡ Ok shape }
-    requires i_lt_nodes { (i < shape.nodes) × Roomy shape patterns.old }
-    requires filled { Filled (claim_of words.now) i patterns.old }
-    ensures filled_2 { Filled (claim_of words.now) (i + 1) patterns.new }
+    requires { Next words.now shape i patterns.old }
+    ensures filled { Filled (claim_of words.now) (i + 1) patterns.new }
     ensures beyond { Beyond (i + 1) patterns.old patterns.new }
 {
     let kind = checker::word(words, 3 * i);
@@ -72,10 +60,7 @@ pub fn prepare(words: &[i32], shape: Shape, patterns: &mut [u64])
     ensures filled { Filled (claim_of words.now) shape.nodes patterns.new }
     ensures beyond { Beyond shape.nodes patterns.old patterns.new }
 {
-    let nodes = shape.nodes;
-    let mut i = 0;
-    while i < nodes {
+    for i in 0..shape.nodes {
         put_entry(words, shape, patterns, i);
-        i += 1;
     }
 }
