@@ -1,42 +1,43 @@
--- Which set a split belongs to, as the table of kinds is filled set by set. Assumes nothing.
+-- Which set a split belongs to, as the table is filled set by set. Assumes nothing.
 use mathlib.Core.Path.{◌≡◌, refl, sym, ap, subst, ◌∙◌}
 use mathlib.Core.Bool.{Bool, true, false, false≢true}
-use mathlib.Core.List.{List, [], ◌∷◌}
-use Prim.Native.Nat.{ℕ, zero, suc, ◌+◌, ◌*◌, ◌^◌, ◌≤◌, ◌<◌}
-use native.Mathlib.Nat.{pow-suc}
+use mathlib.Core.List.{List, [], ◌∷◌, ◌++◌}
+use Prim.Native.Nat.{ℕ, zero, suc, ◌+◌, ◌-◌, ◌*◌, ◌^◌, ◌≤◌, ◌<◌}
+use native.Mathlib.Nat.{pow-suc, pow-le-pow_right}
 use native.Mathlib.Numerals.{add-one}
 use native.Mathlib.Omega.{arith}
-use borrow.Author.Count.{below_more}
-use borrow.Author.Tests.{lt-ltb, le-ltb, ltb-true, ltb-false}
+use borrow.Author.Tests.{lt-ltb, le-ltb}
 use lib.Dec.{T, eqb, ltb}
 use lib.IntN.{ℤ}
-use lib.ListN.{length, get_or, take, drop, set}
-use lib.Seq.{drop-cons, get_or-take, get_or-set_same, get_or-set_other}
+use native.Mathlib.Decide.{dec_lt}
+use lib.ListN.{length, get_or, take, drop, replicate}
+use lib.Seq.{drop-cons, get_or-take, length-take-le}
+use Rattle.std.proofs.lemmas.List.{get_or_append_left, get_or-append_right, get_or-replicate}
 use Rattle.checker.specs.Claim.{Quantifier, int_q, set_q, count_q}
 use Rattle.checker.specs.Kinds.{number, quantifier_of}
 use Rattle.checker.specs.Words.{word, word_at, nodes_in, claim_of}
 use Rattle.checker.specs.Sorts.{is_set_q, sets}
 use Rattle.checker.proofs.Claims.{quantifier_in}
 use Rattle.decider.specs.Plan.{some_at, only_sets}
-use Rattle.decider.specs.Standing.{exists_at, Kinds}
+use Rattle.decider.specs.Standing.{Somes}
 
 abbrev pub is_some : Quantifier → Bool
 is_some (int_q some) = some
 is_some (set_q some) = some
 is_some (count_q some) = some
 
--- The kinds of set quantifiers are 3 and 4.
-pub set_kind : (z : ℤ) → is_set_q (quantifier_of z) ≡ true → (eqb (number z) 3 ≡ is_some (quantifier_of z)) × (number z < 256)
+-- The kinds of set quantifiers are 3, an exists, and 4.
+set_kind : (z : ℤ) → is_set_q (quantifier_of z) ≡ true → eqb (number z) 3 ≡ is_some (quantifier_of z)
 unfolding quantifier_of
 set_kind z e = go (number z) e
   where
     go : (k : ℕ) → is_set_q (get_or (int_q true ∷ int_q true ∷ int_q false ∷ set_q true ∷ set_q false ∷ count_q true ∷ count_q false ∷ []) k (int_q true)) ≡ true
-        → (eqb k 3 ≡ is_some (get_or (int_q true ∷ int_q true ∷ int_q false ∷ set_q true ∷ set_q false ∷ count_q true ∷ count_q false ∷ []) k (int_q true))) × (k < 256)
+        → eqb k 3 ≡ is_some (get_or (int_q true ∷ int_q true ∷ int_q false ∷ set_q true ∷ set_q false ∷ count_q true ∷ count_q false ∷ []) k (int_q true))
     go zero e = absurd (false≢true e)
     go (suc zero) e = absurd (false≢true e)
     go (suc (suc zero)) e = absurd (false≢true e)
-    go (suc (suc (suc zero))) e = (refl, omega arith)
-    go (suc (suc (suc (suc zero)))) e = (refl, omega arith)
+    go (suc (suc (suc zero))) e = refl
+    go (suc (suc (suc (suc zero)))) e = refl
     go (suc (suc (suc (suc (suc zero))))) e = absurd (false≢true e)
     go (suc (suc (suc (suc (suc (suc zero)))))) e = absurd (false≢true e)
     go (suc (suc (suc (suc (suc (suc (suc k))))))) e = absurd (false≢true e)
@@ -77,6 +78,12 @@ pub record Level (qs : List Quantifier) (q n : ℕ) : Type 0 where
 pub level_none : (qs : List Quantifier) → Level qs 0 1
 level_none qs = record { power = refl; later = λ h l. refl }
 
+-- There is room to split the regions of one more quantifier.
+pub level_room : {qs : List Quantifier} {q n all room : ℕ} → Level qs q n → q < all → 2 ^ all ≤ room → n + n ≤ room
+level_room {q = q} {all = all} v l long =
+    let grown : 2 ^ suc q ≤ 2 ^ all = pow-le-pow_right (omega arith) l in
+    omega (arith, v.power, grown, pow-suc 2 q)
+
 module _ (qs : List Quantifier) (o : T (only_sets qs)) (q n : ℕ) (l : q < length qs) (v : Level qs q n) where
   next_set : (h : ℕ) → n ≤ h → some_at qs 1 h ≡ some_at (get_or qs q (int_q true) ∷ drop (suc q) qs) n h
   next_set h a = v.later h a ∙ ap (λ l. some_at l n h) (drop-cons qs q (int_q true) l)
@@ -91,36 +98,25 @@ module _ (qs : List Quantifier) (o : T (only_sets qs)) (q n : ℕ) (l : q < leng
         later = λ h a. next_set h (omega arith) ∙ set_past (get_or qs q (int_q true)) (drop (suc q) qs) n h (only_at qs o q l) a ∙ ap (λ j. some_at (drop j qs) (n + n) h) (sym (add-one q));
       }
 
--- ---- a table that is filled entry by entry
+-- ---- the table of splits
 
--- What holds of the entries below h, and of what is stored at h, holds of those below h + 1.
-pub rows_more : (P : ℕ → ℕ → Type 0) (l : List ℕ) (h v : ℕ) → h < length l → ((g : ℕ) → g < h → P g (get_or l g 0)) → P h v
-    → (g : ℕ) → g < h + 1 → P g (get_or (set l h v) g 0)
-rows_more P l h v room all p =
-    below_more (λ g. P g (get_or (set l h v) g 0)) h
-    (λ g lt. subst (P g) (sym (get_or-set_other l h g v 0 (λ e. absurd (omega (arith, lt, e))))) (all g lt))
-    (subst (P h) (sym (get_or-set_same l h v 0 room)) p)
-
--- ---- the table of kinds
-
--- The word of quantifier q, where all are sets and there are n nodes, is its kind.
-pub kind_at : (ws : List ℤ) → T (only_sets (claim_of ws).quantifiers) → (n q : ℕ) → n ≡ nodes_in ws → q < length (claim_of ws).quantifiers
-    → (eqb (word_at ws (3 * n + q)) 3 ≡ is_some (get_or (claim_of ws).quantifiers q (int_q true))) × (word_at ws (3 * n + q) < 256)
+-- The word of quantifier q, where all are sets and there are n nodes, says whether it is an exists.
+pub exists_at : (ws : List ℤ) → T (only_sets (claim_of ws).quantifiers) → (n q : ℕ) → n ≡ nodes_in ws → q < length (claim_of ws).quantifiers
+    → eqb (word_at ws (3 * n + q)) 3 ≡ is_some (get_or (claim_of ws).quantifiers q (int_q true))
 unfolding word_at
-kind_at ws o n q e l =
+exists_at ws o n q e l =
     let read = quantifier_in ws q l in
     rw (e, read) (set_kind (word ws (3 * nodes_in ws + q)) (rw read at (only_at (claim_of ws).quantifiers o q l)))
 
 -- One more set's entries are stored.
-pub kinds_more : (qs : List Quantifier) → T (only_sets qs) → (q n : ℕ) → q < length qs → Level qs q n → (before after : List ℕ) (kind : ℕ)
-    → Kinds before qs n → take n after ≡ take n before → ((h : ℕ) → n ≤ h → h < n + n → get_or after h 0 ≡ kind)
-    → eqb kind 3 ≡ is_some (get_or qs q (int_q true)) → Kinds after qs (n + n)
-kinds_more qs o q n l v before after kind ks same filled e h a b = go (ltb h n) refl
+pub somes_more : (qs : List Quantifier) → T (only_sets qs) → (q n : ℕ) → q < length qs → Level qs q n → (before after : List Bool) (some : Bool)
+    → Somes before qs n → n ≤ length before → take (n + n) after ≡ take n before ++ replicate n some
+    → some ≡ is_some (get_or qs q (int_q true)) → Somes after qs (n + n)
+somes_more qs o q n l v before after some known room stored e h a b =
+    sym (get_or-take (n + n) after h false b) ∙ ap (λ l. get_or l h false) stored ∙ go (dec_lt h n)
   where
-    go : (t : Bool) → ltb h n ≡ t → exists_at after h ≡ some_at qs 1 h
-    go true d =
-        let lt : h < n = ltb-true h n d in
-        ap (λ k. eqb k 3) (sym (get_or-take n after h 0 lt) ∙ ap (λ l. get_or l h 0) same ∙ get_or-take n before h 0 lt) ∙ ks h a lt
-    go false d =
-        let le : n ≤ h = ltb-false h n d in
-        ap (λ k. eqb k 3) (filled h le b) ∙ e ∙ sym (level_here qs o q n l v h le b)
+    go : Dec (h < n) → get_or (take n before ++ replicate n some) h false ≡ some_at qs 1 h
+    go (yes c) = get_or_append_left (take n before) (replicate n some) false h (omega (arith, length-take-le n before room)) ∙ get_or-take n before h false c ∙ known h a c
+    go (no c) =
+        get_or-append_right (take n before) (replicate n some) n h false (length-take-le n before room) (omega arith)
+        ∙ get_or-replicate n (h - n) some false (omega arith) ∙ e ∙ sym (level_here qs o q n l v h (omega arith) b)

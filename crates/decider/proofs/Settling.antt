@@ -97,8 +97,8 @@ pub prepared_less : {ws : List ℤ} {patterns order : List ℕ} {room size rows 
 prepared_less {ws} {size = size} {rows = rows} {to = to} l p =
     record { ready = p.ready; filled = p.filled; ordered = order_less (claim_of ws) size _ rows to l p.ordered; roomy = p.roomy; small = p.small }
 
-pub guided_kept : {c : Claim} {kinds upto patterns order : List ℕ} {room room' rows regions : ℕ} → room' ≡ room → Guided c kinds upto patterns order room rows regions
-    → Guided c kinds upto patterns order room' rows regions
+pub guided_kept : {c : Claim} {somes : List Bool} {upto patterns order : List ℕ} {room room' rows regions : ℕ} → room' ≡ room → Guided c somes upto patterns order room rows regions
+    → Guided c somes upto patterns order room' rows regions
 guided_kept e g = rw e g
 
 -- ---- arrays

@@ -1,6 +1,6 @@
 -- What stands while the search goes from split to split: the counts of the regions in a lent array, by their heap numbers, and what is
 -- filled before the first split. Assumes nothing.
-use Rattle.std.specs.Prelude.{◌≡◌, Bool, true, List, ℕ, ◌+◌, ◌-◌, ◌^◌, ◌≤◌, ◌<◌, eqb, ℤ, length, get_or, take, drop}
+use Rattle.std.specs.Prelude.{◌≡◌, Bool, true, false, List, ℕ, ◌+◌, ◌-◌, ◌^◌, ◌≤◌, ◌<◌, ℤ, length, get_or, take, drop}
 use Rattle.checker.specs.declared.Shape.{Shape}
 use Rattle.checker.specs.Claim.{Quantifier, Claim}
 use Rattle.checker.specs.Words.{claim_of}
@@ -34,13 +34,9 @@ pub record Passed (regions h : ℕ) (before : List ℕ) (r : ℕ) (after : List 
 
 -- ---- what is filled before
 
--- The kind of split h's quantifier is an exists.
-abbrev pub exists_at : List ℕ → ℕ → Bool
-exists_at kinds h = eqb (get_or kinds h 0) 3
-
--- For each split below `end` the table has the kind of its quantifier.
-abbrev pub Kinds : List ℕ → List Quantifier → ℕ → Type 0
-Kinds kinds qs end = (h : ℕ) → 0 < h → h < end → exists_at kinds h ≡ some_at qs 1 h
+-- For each split below `end` the table says whether it belongs to an exists.
+abbrev pub Somes : List Bool → List Quantifier → ℕ → Type 0
+Somes somes qs end = (h : ℕ) → 0 < h → h < end → get_or somes h false ≡ some_at qs 1 h
 
 -- The claim can be worked out at this size: the patterns and an order of `rows` nodes stand, and there is room for the values.
 pub record Prepared (ws : List ℤ) (patterns order : List ℕ) (room size rows : ℕ) : Type 0 where
@@ -50,23 +46,24 @@ pub record Prepared (ws : List ℤ) (patterns order : List ℕ) (room size rows 
   pub roomy : length (claim_of ws).nodes ≤ room
   pub small : size ≤ max_size
 
--- The splits have their kinds, the number of nodes that the first final regions settle is known, and there is room for all counts.
-pub record Guided (c : Claim) (kinds upto patterns order : List ℕ) (room rows regions : ℕ) : Type 0 where
+-- It is known which splits belong to an exists, and how many nodes the first final regions settle, and there is room for all counts.
+pub record Guided (c : Claim) (somes : List Bool) (upto patterns order : List ℕ) (room rows regions : ℕ) : Type 0 where
   pub final : regions ≡ 2 ^ sets c.quantifiers
   pub few : regions ≤ 2 ^ max_sets
   pub roomy : regions + regions ≤ room
-  pub long : (regions ≤ length kinds) × (regions ≤ length upto)
-  pub quantified : Kinds kinds c.quantifiers regions
+  pub long : (regions ≤ length somes) × (regions ≤ length upto)
+  pub quantified : Somes somes c.quantifiers regions
   pub scheduled : Scheduled patterns regions order rows upto
 
--- All that a claim settles before a search stands: the patterns, an order of `rows` nodes, and of each split how far the order is settled and the kind.
-pub record Arranged (c : Claim) (patterns order upto kinds : List ℕ) (rows regions : ℕ) : Type 0 where
+-- All that a claim settles before a search stands: the patterns, an order of `rows` nodes, and of each split how far the order is settled and
+-- whether it belongs to an exists.
+pub record Arranged (c : Claim) (patterns order upto : List ℕ) (somes : List Bool) (rows regions : ℕ) : Type 0 where
   pub final : regions ≡ 2 ^ sets c.quantifiers
   pub filled : Filled c (length c.nodes) patterns
   pub ordered : Order c order rows
   pub rooted : Has order rows c.root
-  pub long : (regions ≤ length kinds) × (regions ≤ length upto)
-  pub quantified : Kinds kinds c.quantifiers regions
+  pub long : (regions ≤ length somes) × (regions ≤ length upto)
+  pub quantified : Somes somes c.quantifiers regions
   pub scheduled : Scheduled patterns regions order rows upto
 
 -- A search can start at split h: the claim can be worked out at this size, the arrays are long enough, and the regions from h on have all ports.
@@ -79,6 +76,6 @@ pub record Startable (ws : List ℤ) (root size regions h values : ℕ) (counts 
   pub total : Total counts h size
 
 -- The arrays that a decision is worked out in are long enough for the claim.
-pub record Frame (shape : Shape) (order upto kinds values counts : ℕ) : Type 0 where
+pub record Frame (shape : Shape) (order upto somes values counts : ℕ) : Type 0 where
   pub nodes : (shape.nodes ≤ order) × (shape.nodes ≤ values)
-  pub regions : (2 ^ shape.sets < upto) × (2 ^ shape.sets ≤ kinds) × (2 ^ shape.sets + 2 ^ shape.sets ≤ counts)
+  pub regions : (2 ^ shape.sets < upto) × (2 ^ shape.sets ≤ somes) × (2 ^ shape.sets + 2 ^ shape.sets ≤ counts)

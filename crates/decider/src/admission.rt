@@ -1,5 +1,5 @@
 // What the decider takes: refusals 9 to 11, after those of the checker.
-ghost use Rattle.std.specs.Prelude.{◌≡◌, ◌<◌};
+ghost use Rattle.std.specs.Prelude.{◌≡◌, ◌<◌, IfSome, unwrap_or};
 ghost use Rattle.checker.specs.Words.{claim_of};
 ghost use Rattle.checker.specs.Check.{verdict, check_of};
 ghost use Rattle.decider.specs.Decision.{first_number, decider_tests, admission};
@@ -8,20 +8,13 @@ use checker::{Refusal, Shape};
 
 const MAX_SIZE: u32 = 4096;
 
-// The first quantifier over numbers, or how many quantifiers there are.
-fn first_number(words: &[i32], shape: Shape) -> usize
+// The first quantifier over numbers, if there is one.
+fn first_number(words: &[i32], shape: Shape) -> Option<usize>
     requires { check_of words.now ≡ Ok shape }
-    ensures { result ≡ first_number (claim_of words.now) }
+    ensures number { unwrap_or result shape.quantifiers ≡ first_number (claim_of words.now) }
+    ensures within { IfSome result (λ i. i < shape.quantifiers) }
 {
-    let quantifiers = shape.quantifiers;
-    let mut i = 0;
-    while i < quantifiers {
-        if !matrix::patterns::over_sets(words, shape, i) {
-            return i;
-        }
-        i += 1;
-    }
-    i
+    (0..shape.quantifiers).find(|i| !matrix::patterns::over_sets(words, shape, *i))
 }
 
 // Refusals 9 to 11, of a claim that the checker accepts.
@@ -33,9 +26,7 @@ fn admit_claim(words: &[i32], size: u32, shape: Shape) -> Result<Shape, Refusal>
         return Err(Refusal::LargeSize);
     }
     let nodes = shape.nodes;
-    let quantifiers = shape.quantifiers;
-    let number = first_number(words, shape);
-    if number < quantifiers {
+    if let Some(number) = first_number(words, shape) {
         return Err(Refusal::OverNumbers(3 * nodes + number));
     }
     let over = matrix::bound::first_over(words, shape, size);

@@ -16,9 +16,9 @@ use checker::{Refusal, Shape};
 
 mod admission; // refusals 9 to 11
 mod allowance; // steps, paid for one at a time
-mod kinds; // which quantifier a split belongs to
 mod prepare; // what is settled before a search
 mod search; // the splits, in order
+mod somes; // which splits belong to an exists
 
 // True or false with the steps taken; or the allowance is spent, all of it.
 #[derive(Clone, Copy, PartialEq, Eq)]
@@ -53,16 +53,16 @@ fn rule_in(
     patterns: &mut [u64],
     order: &mut [usize],
     upto: &mut [usize],
-    kinds: &mut [u8],
+    somes: &mut [bool],
     values: &mut [i32],
     counts: &mut [u32],
 ) -> Reply
     requires words_value { admission size (claim_of words.now) (check_of words.now) ≡ Ok shape }
     requires taken_bound { a.left + a.taken < 2 ^ 64 }
-    requires roomy { Roomy shape patterns.old × Frame shape (length order.old) (length upto.old) (length kinds.old) (length values.old) (length counts.old) }
+    requires roomy { Roomy shape patterns.old × Frame shape (length order.old) (length upto.old) (length somes.old) (length values.old) (length counts.old) }
     ensures { result ≡ reply (ruling size (claim_of words.now)) a }
 {
-    let arrangement = prepare::prepare(words, shape, patterns, order, upto, kinds);
+    let arrangement = prepare::prepare(words, shape, patterns, order, upto, somes);
     counts[0] = 0;
     counts[1] = size;
     search::search(
@@ -70,7 +70,7 @@ fn rule_in(
         patterns,
         order,
         upto,
-        kinds,
+        somes,
         arrangement,
         shape.root,
         size,
@@ -91,7 +91,7 @@ fn rule_narrow(words: &[i32], size: u32, shape: Shape, a: Allowance) -> Reply
     let mut patterns = [0u64; region::NARROW];
     let mut order = [0usize; 1024];
     let mut upto = [0usize; 65];
-    let mut kinds = [0u8; 64];
+    let mut somes = [false; 64];
     let mut values = [0i32; 1024];
     let mut counts = [0u32; 128];
     rule_in(
@@ -102,7 +102,7 @@ fn rule_narrow(words: &[i32], size: u32, shape: Shape, a: Allowance) -> Reply
         &mut patterns,
         &mut order,
         &mut upto,
-        &mut kinds,
+        &mut somes,
         &mut values,
         &mut counts,
     )
@@ -117,7 +117,7 @@ fn rule_wide(words: &[i32], size: u32, shape: Shape, a: Allowance) -> Reply
     let mut patterns = [0u64; region::WIDE];
     let mut order = [0usize; 1024];
     let mut upto = [0usize; 257];
-    let mut kinds = [0u8; 256];
+    let mut somes = [false; 256];
     let mut values = [0i32; 1024];
     let mut counts = [0u32; 512];
     rule_in(
@@ -128,7 +128,7 @@ fn rule_wide(words: &[i32], size: u32, shape: Shape, a: Allowance) -> Reply
         &mut patterns,
         &mut order,
         &mut upto,
-        &mut kinds,
+        &mut somes,
         &mut values,
         &mut counts,
     )

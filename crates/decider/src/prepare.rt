@@ -1,4 +1,4 @@
-// What a claim settles before a search: its patterns, the order of its nodes, and the kind of each split.
+// What a claim settles before a search: its patterns, the order of its nodes, and which splits belong to an exists.
 ghost use Rattle.std.specs.Prelude.{◌≡◌, ◌^◌, ◌<◌, ◌≤◌, T, length};
 ghost use Rattle.checker.specs.Words.{claim_of};
 ghost use Rattle.checker.specs.Check.{check_of};
@@ -21,14 +21,14 @@ pub fn prepare(
     patterns: &mut [u64],
     order: &mut [usize],
     upto: &mut [usize],
-    kinds: &mut [u8],
+    somes: &mut [bool],
 ) -> Arrangement
     requires words_value { (check_of words.now ≡ Ok shape) × T (only_sets (claim_of words.now).quantifiers) × Roomy shape patterns.old }
-    requires nodes_in_bounds { (shape.nodes ≤ length order.old) × (2 ^ shape.sets < length upto.old) × (2 ^ shape.sets ≤ length kinds.old) }
-    ensures { Arranged (claim_of words.now) patterns.new order.new upto.new kinds.new result.rows result.regions }
+    requires nodes_in_bounds { (shape.nodes ≤ length order.old) × (2 ^ shape.sets < length upto.old) × (2 ^ shape.sets ≤ length somes.old) }
+    ensures { Arranged (claim_of words.now) patterns.new order.new upto.new somes.new result.rows result.regions }
 {
     matrix::patterns::prepare(words, shape, patterns);
     let rows = matrix::order::arrange(words, shape, patterns, order, upto);
-    let regions = crate::kinds::fill_kinds(words, shape, kinds);
+    let regions = crate::somes::fill_somes(words, shape, somes);
     Arrangement { rows, regions }
 }

@@ -12,9 +12,6 @@ ghost use Rattle.decider.specs.Standing.{Total, finals, Passed, Prepared, Guided
 use crate::allowance::{Allowance, Reply};
 use crate::prepare::Arrangement;
 
-// The kind of a quantifier "exists set".
-const EXISTS: u8 = 3;
-
 // A run of tries ends with this reply to one of them: the allowance is spent, or an exists has found a true, or a for-all a false.
 fn ends(some: bool, x: Reply) -> bool
     ensures { result ≡ halts some x }
@@ -41,15 +38,13 @@ pub fn pass(counts: &mut [u32], regions: usize, h: usize) -> usize
     requires { (0 < h) × (h ≤ regions) × (regions + regions ≤ length counts.old) }
     ensures { Passed regions h counts.old result counts.new }
 {
-    let mut here = h;
-    while here < regions {
+    for here in h..regions {
         if 0 < counts[here] {
             return here;
         }
         children(counts, here, 0);
-        here += 1;
     }
-    here
+    regions
 }
 
 // One step: an evaluation of the matrix, paid for. The nodes before place `known` of the order stand already.
@@ -101,12 +96,6 @@ pub fn step(
     }
 }
 
-fn least(x: usize, y: usize) -> usize
-    ensures { result ≡ x - (x - y) }
-{
-    if x < y { x } else { y }
-}
-
 // Works out the nodes of the order that the final regions which stand before split h settle. How many stand then.
 fn advance(
     words: &[i32],
@@ -130,7 +119,7 @@ fn advance(
     ensures kept { Kept order.now known values.old values.new }
 {
     let stop = h + h;
-    let start = least(stop, regions);
+    let start = stop.min(regions);
     let to = upto[stop - start];
     if to <= known {
         return known;
@@ -155,7 +144,7 @@ pub fn splits(
     words: &[i32],
     patterns: &[u64],
     order: &[usize],
-    kinds: &[u8],
+    somes: &[bool],
     upto: &[usize],
     rows: usize,
     root: usize,
@@ -167,7 +156,7 @@ pub fn splits(
 ) -> Reply
     requires prepared { Prepared words.now patterns.now order.now (length values.old) size rows }
     requires has { Has order.now rows root × (root ≡ (claim_of words.now).root) }
-    requires guided { Guided (claim_of words.now) kinds.now upto.now patterns.now order.now (length counts.old) rows regions }
+    requires guided { Guided (claim_of words.now) somes.now upto.now patterns.now order.now (length counts.old) rows regions }
     requires h_nonzero { (0 < h) × (h < regions) × Total counts.old h size }
     requires known_le_rows { (known ≤ rows) × Known (claim_of words.now) size (finals regions h counts.old) order.now known values.old }
     requires taken_bound { a.left + a.taken < 2 ^ 64 }
@@ -179,7 +168,7 @@ pub fn splits(
     let next = advance(
         words, patterns, order, upto, size, counts, values, regions, h, known,
     );
-    let some = kinds[h] == EXISTS;
+    let some = somes[h];
     let whole = counts[h];
     let mut rest = a;
     let mut k = 0;
@@ -192,7 +181,7 @@ pub fn splits(
             )
         } else {
             splits(
-                counts, values, words, patterns, order, kinds, upto, rows, root, size, regions,
+                counts, values, words, patterns, order, somes, upto, rows, root, size, regions,
                 next, below, rest,
             )
         };
@@ -215,7 +204,7 @@ pub fn search(
     patterns: &[u64],
     order: &[usize],
     upto: &[usize],
-    kinds: &[u8],
+    somes: &[bool],
     arrangement: Arrangement,
     root: usize,
     size: u32,
@@ -224,7 +213,7 @@ pub fn search(
     values: &mut [i32],
     a: Allowance,
 ) -> Reply
-    requires arranged { Arranged (claim_of words.now) patterns.now order.now upto.now kinds.now arrangement.rows arrangement.regions }
+    requires arranged { Arranged (claim_of words.now) patterns.now order.now upto.now somes.now arrangement.rows arrangement.regions }
     requires startable { Startable words.now root size arrangement.regions h (length values.old) counts.old }
     requires taken_bound { a.left + a.taken < 2 ^ 64 }
     ensures { result ≡ reply (rule (plan_of (claim_of words.now)) (arrangement.regions - h) h (take (h + h) counts.old)) a }
@@ -238,6 +227,6 @@ pub fn search(
         );
     }
     splits(
-        counts, values, words, patterns, order, kinds, upto, rows, root, size, regions, 0, first, a,
+        counts, values, words, patterns, order, somes, upto, rows, root, size, regions, 0, first, a,
     )
 }

@@ -1,4 +1,5 @@
 use mathlib.Core.Path.{◌≡◌, sym, ap, subst, ◌∙◌}
+use mathlib.Core.Bool.{false}
 use Prim.Native.Nat.{◌+◌, ◌-◌, ◌^◌, ◌≤◌, ◌<◌}
 use native.Mathlib.Omega.{arith}
 use lib.ListN.{length, take, get_or}
@@ -9,7 +10,7 @@ use Rattle.matrix.proofs.Known.{known_kept}
 use Rattle.decider.specs.Rule.{rule, tries, split}
 use Rattle.decider.specs.Plan.{plan_of}
 use Rattle.decider.specs.Answer.{reply}
-use Rattle.decider.specs.Standing.{Total, finals, exists_at, Passed}
+use Rattle.decider.specs.Standing.{Total, finals, Passed}
 use Rattle.decider.specs.Decision.{max_size}
 use Rattle.decider.proofs.Answer.{tries_none, stopped, went_on, on_kept}
 use Rattle.decider.proofs.Heap.{same_at, shorter, next, leaf, run, given_is, still, total_more}
@@ -28,8 +29,8 @@ advance-next-requires t c =
       known = c.requires.known_le_rows.1;
     }
 
-pub bounds-kinds-h : goal.bounds-kinds-h
-bounds-kinds-h t c =
+pub bounds-somes-h : goal.bounds-somes-h
+bounds-somes-h t c =
     omega (arith, c.requires.h_nonzero.1, c.requires.guided.long.0)
 
 pub offset_bounds-counts-h : goal.offset_bounds-counts-h
@@ -136,8 +137,8 @@ shape_of-values-then-ends t c =
 pub returns-then-ends : goal.returns-then-ends
 returns-then-ends t c =
     let room : c.args.h + c.args.h ≤ length c.args.counts.now = omega (arith, c.requires.h_nonzero.1, c.requires.guided.roomy) in
-    let all-tries : reply (tries (exists_at c.args.kinds.now c.args.h) (next (plan_of (claim_of c.args.words.now)) c.args.regions c.args.h c.args.counts.now) ((get_or c.args.counts.now c.args.h 0) + 1 - c.loop-k.k) c.loop-k.k) c.loop-k.rest ≡ reply (rule (plan_of (claim_of c.args.words.now)) (c.args.regions - c.args.h) c.args.h (take (c.args.h + c.args.h) c.args.counts.now)) c.args.a = c.loop-k.invariant.4
-    ∙ ap (λ r. reply r c.args.a) (run (claim_of c.args.words.now) c.args.regions c.args.h c.args.counts.now c.requires.h_nonzero.0 c.requires.h_nonzero.1 (exists_at c.args.kinds.now c.args.h) (c.requires.guided.quantified c.args.h c.requires.h_nonzero.0 c.requires.h_nonzero.1)) in
+    let all-tries : reply (tries (get_or c.args.somes.now c.args.h false) (next (plan_of (claim_of c.args.words.now)) c.args.regions c.args.h c.args.counts.now) ((get_or c.args.counts.now c.args.h 0) + 1 - c.loop-k.k) c.loop-k.k) c.loop-k.rest ≡ reply (rule (plan_of (claim_of c.args.words.now)) (c.args.regions - c.args.h) c.args.h (take (c.args.h + c.args.h) c.args.counts.now)) c.args.a = c.loop-k.invariant.4
+    ∙ ap (λ r. reply r c.args.a) (run (claim_of c.args.words.now) c.args.regions c.args.h c.args.counts.now c.requires.h_nonzero.0 c.requires.h_nonzero.1 (get_or c.args.somes.now c.args.h false) (c.requires.guided.quantified c.args.h c.requires.h_nonzero.0 c.requires.h_nonzero.1)) in
     let within : c.loop-k.k ≤ (get_or c.args.counts.now c.args.h 0) = c.loop-k-test.true in
     let given : take (c.args.h + 1 + (c.args.h + 1)) c.children.new.counts ≡ split (take (c.args.h + c.args.h) c.args.counts.now) c.args.h c.loop-k.k = given_is c.args.h c.args.counts.now c.loop-k.counts c.children.new.counts c.loop-k.k c.loop-k.invariant.2 c.children.ensures in
     let passed : Passed c.args.regions (c.args.h + 1) c.children.new.counts c.pass-below.result c.pass-below.new.counts = c.pass-below.ensures in
@@ -156,7 +157,7 @@ returns-then-ends t c =
     let back : Kept c.args.order.now c.args.known c.args.values.now c.if-below-regions.values = λ k n. values-stand k (omega (arith, n, c.advance-next.ensures.value)) ∙ c.advance-next.ensures.kept k n in
     let turn : c.loop-k.k < (get_or c.args.counts.now c.args.h 0) + 1 = omega (arith, within) in
     record {
-      value = stopped (exists_at c.args.kinds.now c.args.h) ((next (plan_of (claim_of c.args.words.now)) c.args.regions c.args.h c.args.counts.now)) ((get_or c.args.counts.now c.args.h 0) + 1) c.loop-k.k c.loop-k.rest c.if-below-regions.x made turn (sym c.ends.ensures ∙ c.if-ends.true) ∙ all-tries;
+      value = stopped (get_or c.args.somes.now c.args.h false) ((next (plan_of (claim_of c.args.words.now)) c.args.regions c.args.h c.args.counts.now)) ((get_or c.args.counts.now c.args.h 0) + 1) c.loop-k.k c.loop-k.rest c.if-below-regions.x made turn (sym c.ends.ensures ∙ c.if-ends.true) ∙ all-tries;
       counts_unchanged = stands;
       kept = back;
       counts_len_unchanged = (counts-long, values_long ∙ c.advance-next.auto.values);
@@ -191,8 +192,8 @@ loop-k-preserved t c =
       omega (arith, turn),
       counts-long,
       stands,
-      on_kept (exists_at c.args.kinds.now c.args.h) ((next (plan_of (claim_of c.args.words.now)) c.args.regions c.args.h c.args.counts.now)) ((get_or c.args.counts.now c.args.h 0) + 1) c.loop-k.k c.loop-k.rest c.if-below-regions.x made turn ∙ c.loop-k.invariant.3,
-      went_on (exists_at c.args.kinds.now c.args.h) ((next (plan_of (claim_of c.args.words.now)) c.args.regions c.args.h c.args.counts.now)) ((get_or c.args.counts.now c.args.h 0) + 1) c.loop-k.k c.loop-k.rest c.if-below-regions.x made turn (sym c.ends.ensures ∙ c.if-ends.false) ∙ c.loop-k.invariant.4,
+      on_kept (get_or c.args.somes.now c.args.h false) ((next (plan_of (claim_of c.args.words.now)) c.args.regions c.args.h c.args.counts.now)) ((get_or c.args.counts.now c.args.h 0) + 1) c.loop-k.k c.loop-k.rest c.if-below-regions.x made turn ∙ c.loop-k.invariant.3,
+      went_on (get_or c.args.somes.now c.args.h false) ((next (plan_of (claim_of c.args.words.now)) c.args.regions c.args.h c.args.counts.now)) ((get_or c.args.counts.now c.args.h 0) + 1) c.loop-k.k c.loop-k.rest c.if-below-regions.x made turn (sym c.ends.ensures ∙ c.if-ends.false) ∙ c.loop-k.invariant.4,
       values_long,
       values-stand,
     )
@@ -207,11 +208,11 @@ shape_of-values t c =
 
 pub returns : goal.returns
 returns t c =
-    let all-tries : reply (tries (exists_at c.args.kinds.now c.args.h) (next (plan_of (claim_of c.args.words.now)) c.args.regions c.args.h c.args.counts.now) ((get_or c.args.counts.now c.args.h 0) + 1 - c.loop-k.k) c.loop-k.k) c.loop-k.rest ≡ reply (rule (plan_of (claim_of c.args.words.now)) (c.args.regions - c.args.h) c.args.h (take (c.args.h + c.args.h) c.args.counts.now)) c.args.a = c.loop-k.invariant.4
-    ∙ ap (λ r. reply r c.args.a) (run (claim_of c.args.words.now) c.args.regions c.args.h c.args.counts.now c.requires.h_nonzero.0 c.requires.h_nonzero.1 (exists_at c.args.kinds.now c.args.h) (c.requires.guided.quantified c.args.h c.requires.h_nonzero.0 c.requires.h_nonzero.1)) in
+    let all-tries : reply (tries (get_or c.args.somes.now c.args.h false) (next (plan_of (claim_of c.args.words.now)) c.args.regions c.args.h c.args.counts.now) ((get_or c.args.counts.now c.args.h 0) + 1 - c.loop-k.k) c.loop-k.k) c.loop-k.rest ≡ reply (rule (plan_of (claim_of c.args.words.now)) (c.args.regions - c.args.h) c.args.h (take (c.args.h + c.args.h) c.args.counts.now)) c.args.a = c.loop-k.invariant.4
+    ∙ ap (λ r. reply r c.args.a) (run (claim_of c.args.words.now) c.args.regions c.args.h c.args.counts.now c.requires.h_nonzero.0 c.requires.h_nonzero.1 (get_or c.args.somes.now c.args.h false) (c.requires.guided.quantified c.args.h c.requires.h_nonzero.0 c.requires.h_nonzero.1)) in
     let past : c.loop-k.k ≡ (get_or c.args.counts.now c.args.h 0) + 1 = omega (arith, c.loop-k-test.false, c.loop-k.invariant.0) in record {
-      value = sym (tries_none (exists_at c.args.kinds.now c.args.h) ((next (plan_of (claim_of c.args.words.now)) c.args.regions c.args.h c.args.counts.now)) ((get_or c.args.counts.now c.args.h 0) + 1) c.loop-k.rest)
-          ∙ ap (λ k. reply (tries (exists_at c.args.kinds.now c.args.h) ((next (plan_of (claim_of c.args.words.now)) c.args.regions c.args.h c.args.counts.now)) ((get_or c.args.counts.now c.args.h 0) + 1 - k) k) c.loop-k.rest) (sym past)
+      value = sym (tries_none (get_or c.args.somes.now c.args.h false) ((next (plan_of (claim_of c.args.words.now)) c.args.regions c.args.h c.args.counts.now)) ((get_or c.args.counts.now c.args.h 0) + 1) c.loop-k.rest)
+          ∙ ap (λ k. reply (tries (get_or c.args.somes.now c.args.h false) ((next (plan_of (claim_of c.args.words.now)) c.args.regions c.args.h c.args.counts.now)) ((get_or c.args.counts.now c.args.h 0) + 1 - k) k) c.loop-k.rest) (sym past)
           ∙ all-tries;
       counts_unchanged = c.loop-k.invariant.2;
       kept = λ k m. c.loop-k.invariant.6 k (omega (arith, m, c.advance-next.ensures.value)) ∙ c.advance-next.ensures.kept k m;

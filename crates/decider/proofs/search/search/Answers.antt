@@ -70,7 +70,7 @@ splits-requires c =
     let few : c.args.arrangement.regions ≤ 2 ^ max_sets = let known = sound c.args.words.now _ c.requires.startable.ready.accepted in
     let short : sets (claim_of c.args.words.now).quantifiers ≤ max_sets = omega (arith, known.few_sets, known.sets) in
     omega (arith, pow_mono short, c.requires.arranged.final) in
-    let guided : Guided (claim_of c.args.words.now) c.args.kinds.now c.args.upto.now c.args.patterns.now c.args.order.now (length c.pass-first.new.counts) c.args.arrangement.rows c.args.arrangement.regions = record { final = c.requires.arranged.final; few = few; roomy = room; long = c.requires.arranged.long; quantified = c.requires.arranged.quantified; scheduled = c.requires.arranged.scheduled } in
+    let guided : Guided (claim_of c.args.words.now) c.args.somes.now c.args.upto.now c.args.patterns.now c.args.order.now (length c.pass-first.new.counts) c.args.arrangement.rows c.args.arrangement.regions = record { final = c.requires.arranged.final; few = few; roomy = room; long = c.requires.arranged.long; quantified = c.requires.arranged.quantified; scheduled = c.requires.arranged.scheduled } in
     let more : c.pass-first.result < c.args.arrangement.regions = omega (arith, c.pass-first.ensures.upto, c.if-first-regions.false) in record {
       prepared = prepared;
       has = rooted;
