@@ -2,7 +2,7 @@
 
 #![tactic(auto)]
 
-ghost use Rattle.std.specs.Prelude.{◌≡◌, ◌+◌, ◌^◌, ◌<◌, ◌≤◌, length};
+ghost use Rattle.std.specs.Prelude.{◌≡◌, ◌+◌, ◌^◌, ◌<◌, length, replicate};
 ghost use Rattle.checker.specs.Words.{claim_of};
 ghost use Rattle.checker.specs.Check.{check_of};
 ghost use Rattle.decider.specs.Plan.{ruling};
@@ -81,45 +81,25 @@ fn rule_in(
     )
 }
 
-// The same in arrays for up to six sets: clearing them is a good part of a short call.
-fn rule_narrow(words: &[i32], size: u32, shape: Shape, a: Allowance) -> Reply
+// The same in arrays with room for so many regions: clearing larger ones is a good part of a short call.
+fn rule_within<
+    const PATTERNS: usize,
+    const PLACES: usize,
+    const REGIONS: usize,
+    const COUNTS: usize,
+>(words: &[i32], size: u32, shape: Shape, a: Allowance) -> Reply
     requires words_value { admission size (claim_of words.now) (check_of words.now) ≡ Ok shape }
     requires taken_bound { a.left + a.taken < 2 ^ 64 }
-    requires sets_bound { shape.sets ≤ 6 }
+    requires small { PATTERNS + PLACES + REGIONS + COUNTS < 2 ^ 32 }
+    requires roomy { Roomy shape (replicate PATTERNS 0) × Frame shape 1024 PLACES REGIONS 1024 COUNTS }
     ensures { result ≡ reply (ruling size (claim_of words.now)) a }
 {
-    let mut patterns = [0u64; region::NARROW];
+    let mut patterns = [0u64; PATTERNS];
     let mut order = [0usize; 1024];
-    let mut upto = [0usize; 65];
-    let mut somes = [false; 64];
+    let mut upto = [0usize; PLACES];
+    let mut somes = [false; REGIONS];
     let mut values = [0i32; 1024];
-    let mut counts = [0u32; 128];
-    rule_in(
-        words,
-        size,
-        shape,
-        a,
-        &mut patterns,
-        &mut order,
-        &mut upto,
-        &mut somes,
-        &mut values,
-        &mut counts,
-    )
-}
-
-// And for all that a claim may have.
-fn rule_wide(words: &[i32], size: u32, shape: Shape, a: Allowance) -> Reply
-    requires words_value { admission size (claim_of words.now) (check_of words.now) ≡ Ok shape }
-    requires taken_bound { a.left + a.taken < 2 ^ 64 }
-    ensures { result ≡ reply (ruling size (claim_of words.now)) a }
-{
-    let mut patterns = [0u64; region::WIDE];
-    let mut order = [0usize; 1024];
-    let mut upto = [0usize; 257];
-    let mut somes = [false; 256];
-    let mut values = [0i32; 1024];
-    let mut counts = [0u32; 512];
+    let mut counts = [0u32; COUNTS];
     rule_in(
         words,
         size,
@@ -140,9 +120,10 @@ fn rule_on(words: &[i32], size: u32, shape: Shape, a: Allowance) -> Reply
     ensures { result ≡ reply (ruling size (claim_of words.now)) a }
 {
     if shape.sets <= region::NARROW_SETS {
-        return rule_narrow(words, size, shape, a);
+        rule_within::<{ region::NARROW }, 65, 64, 128>(words, size, shape, a)
+    } else {
+        rule_within::<{ region::WIDE }, 257, 256, 512>(words, size, shape, a)
     }
-    rule_wide(words, size, shape, a)
 }
 
 // Whether the claim is true at size n, in at most `allowance` evaluations of its matrix.

@@ -1,4 +1,4 @@
-use Prim.Native.Nat.{◌+◌, ◌-◌}
+use Prim.Native.Nat.{◌+◌}
 use native.Mathlib.Omega.{arith}
 use Rattle.checker.specs.Words.{claim_of}
 use Rattle.decider.proofs.Heap.{final_part}

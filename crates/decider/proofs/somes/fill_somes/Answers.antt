@@ -47,8 +47,7 @@ loop-q-preserved c =
     let shape = sound _ _ c.requires.words_value in
     let there : c.loop-q.q < length (claim_of ws).quantifiers = omega (arith, c.loop-q-test.true, shape.quantifiers) in
     let some = exists_at ws c.requires.t c.args.shape.nodes c.loop-q.q (shape.nodes ∙ node_count_lem ws) there in
-    let room : c.loop-q.regions + c.loop-q.regions ≤ length c.loop-q.somes = omega (arith, level_room c.loop-q.invariant.0 c.loop-q-test.true c.requires.quantifiers_in_bounds) in
-    (
+    let room : c.loop-q.regions + c.loop-q.regions ≤ length c.loop-q.somes = omega (arith, level_room c.loop-q.invariant.0 c.loop-q-test.true c.requires.quantifiers_in_bounds) in (
       level_more _ c.requires.t _ _ there c.loop-q.invariant.0,
       somes_more _ c.requires.t _ _ there c.loop-q.invariant.0 c.loop-q.somes _ _ c.loop-q.invariant.1 (omega (arith, room))
           (filled c.loop-q.regions c.loop-q.somes c.fill.new.self _ room (c.fill.ensures.after (λ y x. x))) (ap (λ k. eqb k 3) c.word-some.ensures ∙ some),
