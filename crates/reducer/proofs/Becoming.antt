@@ -3,7 +3,7 @@
 use mathlib.Core.Path.{◌≡◌, refl, sym, ap, ap₂, ◌∙◌}
 use mathlib.Core.Bool.{Bool, true, false}
 use mathlib.Core.List.{List, [], ◌∷◌, ◌++◌, map, map-append}
-use Prim.Native.Nat.{ℕ, zero, suc, ◌+◌, ◌*◌, ◌-◌, ◌^◌, ◌%◌, ◌≤◌, ◌<◌}
+use Prim.Native.Nat.{ℕ, zero, suc, ◌+◌, ◌*◌, ◌^◌, ◌%◌, ◌≤◌, ◌<◌}
 use native.Mathlib.Omega.{arith}
 use lib.IntN.{ℤ, pos}
 use lib.ListN.{length, get_or, take, drop, replicate, length-append, length-map, take-append-drop}
@@ -25,16 +25,6 @@ use Rattle.reducer.specs.Closing.{Prepared, becomes_at}
 use Rattle.reducer.proofs.Joining.{known, in_claim, frame_says, frame_within, kind_is}
 
 -- ---- a number written again and again
-
-pub replicate_step : {A : Type 0} (n : ℕ) (x : A) → 0 < n → replicate n x ≡ (x ∷ []) ++ replicate (n - 1) x
-replicate_step n x h =
-    let e : n ≡ suc (n - 1) = omega arith in
-    ap (λ k. replicate k x) e
-
-pub replicate_none : {A : Type 0} (n : ℕ) (x : A) → n ≤ 0 → replicate n x ≡ []
-replicate_none n x h =
-    let e : n ≡ 0 = omega arith in
-    ap (λ k. replicate k x) e
 
 map-replicate : {A B : Type 0} (f : A → B) (n : ℕ) (x : A) → map f (replicate n x) ≡ replicate n (f x)
 map-replicate f zero x = refl
@@ -94,7 +84,7 @@ module _ {ws : List ℤ} {shape : Shape} {plan : List ℕ} (p : Prepared ws shap
   unfolding number
   kind_small k e = rw (← kind_word k e) at (word_small (get_or quantifiers j (int_q true)))
 
-  pub number_becomes : (k : ℕ) → k ≡ word_at ws (3 * shape.nodes + j) → (3 ≤ k → k < 5 → ⊥) → becomes_at (claim_of ws) j ≡ replicate 1 (pos k)
+  pub number_becomes : (k : ℕ) → k ≡ word_at ws (3 * shape.nodes + j) → (3 ≤ k → k < 5 → ⊥) → becomes_at (claim_of ws) j ≡ pos k ∷ []
   unfolding becomes_at
   number_becomes k e n =
       becomes_number _ (get_or quantifiers j (int_q true)) (ap is_set_q (kind_is p j h k (sym e)) ∙ kind_number k n) ∙ ap (λ z. z ∷ []) (sym (kind_word k e))

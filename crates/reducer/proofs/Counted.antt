@@ -1,30 +1,23 @@
 -- How much is emitted, as the code counts it, and the words in the order in which they are written.
 -- Assumes nothing.
-use mathlib.Core.Path.{◌≡◌, refl, sym, ap, ◌∙◌}
-use mathlib.Core.Bool.{true, false}
-use mathlib.Core.List.{List, [], ◌∷◌, ◌++◌, map, append_assoc}
-use Prim.Native.Nat.{ℕ, zero, suc, ◌+◌, ◌*◌, ◌^◌, ◌%◌, ◌≤◌, ◌<◌}
-use native.Mathlib.Nat.{zero-add, pow-le-pow_right}
-use native.Mathlib.Omega.{arith}
-use lib.IntN.{ℤ, pos}
-use lib.ListN.{length, get_or, take, length-append}
+use Rattle.std.proofs.Common.{◌≡◌, refl, sym, ap, ◌∙◌, true, false, List, [], ◌∷◌, ◌++◌, map, append_assoc, ℕ, suc, ◌+◌, ◌*◌, ◌-◌, ◌^◌, ◌%◌, ◌≤◌, ◌<◌, zero-add, arith, ℤ, pos, int_eq, length, take, length-append, slice_range, filter, count_by}
+use Rattle.std.proofs.lemmas.List.Sums.{length-filter}
+use Rattle.std.proofs.lemmas.List.{length-map}
+use native.Mathlib.Nat.{pow-le-pow_right}
 use lib.Pow.{pow_pos}
-use lib.Seq.{take-length}
+use lib.Seq.{take-length, drop-append_seam, take-append_seam}
 use Rattle.checker.specs.declared.Shape.{Shape}
 use Rattle.checker.specs.Claim.{Quantifier, int_q, set_q, count_q, Claim}
-use Rattle.checker.specs.Kinds.{number, quantifier_of}
-use Rattle.checker.specs.Words.{word_at, claim_of, nodes_words, quantifier_word, mark, trailer, words_of}
+use Rattle.checker.specs.Words.{claim_of, nodes_words, quantifier_word, mark, trailer, words_of}
 use Rattle.checker.specs.Check.{max_sets}
-use Rattle.checker.proofs.Words.{words_append, words-length}
+use Rattle.checker.proofs.Words.{nodes_words-length, words_append, words-length}
 use Rattle.emission.specs.Emission.{start, inside_all, emit_quantifiers, body, emission}
 use Rattle.emission.specs.Sizes.{all_sets}
 use Rattle.emission.specs.Plan.{frame_at}
 use Rattle.lent.specs.Write.{Wrote}
 use Rattle.emission.specs.Write.{Room, WroteNodes}
 use Rattle.checker.proofs.Claims.{Sound}
-use Rattle.emission.proofs.Claims.{quantifier_at_lem}
 use Rattle.emission.proofs.Lengths.{next_is}
-use Rattle.emission.proofs.Steps.{next_taken}
 use Rattle.lent.proofs.Writing.{wrote_then}
 use Rattle.emission.proofs.Writing.{nodes_after}
 use Rattle.reducer.specs.Sizes.{region_count, constraint_part}
@@ -37,14 +30,6 @@ use Rattle.reducer.proofs.Joining.{known, rooted}
 
 -- ---- for-alls
 
-alls_append : (ps qs : List Quantifier) → all_sets (ps ++ qs) ≡ all_sets ps + all_sets qs
-unfolding all_sets
-alls_append [] qs = sym (zero-add (all_sets qs))
-alls_append (int_q some ∷ ps) qs = alls_append ps qs
-alls_append (set_q true ∷ ps) qs = alls_append ps qs
-alls_append (set_q false ∷ ps) qs = omega (arith, alls_append ps qs)
-alls_append (count_q some ∷ ps) qs = alls_append ps qs
-
 pub alls_few : (qs : List Quantifier) → all_sets qs ≤ length qs
 unfolding all_sets
 alls_few [] = omega arith
@@ -53,50 +38,40 @@ alls_few (set_q true ∷ qs) = omega (arith, alls_few qs)
 alls_few (set_q false ∷ qs) = omega (arith, alls_few qs)
 alls_few (count_q some ∷ qs) = omega (arith, alls_few qs)
 
-all_one : (k : ℕ) → k ≡ 4 → all_sets (quantifier_of (pos k) ∷ []) ≡ 1
-unfolding all_sets quantifier_of number
-all_one k e = rw e
+-- the words of the for-alls are those that are 4
+alls_counted : (qs : List Quantifier) → length (filter (λ w. int_eq w (pos 4)) (map quantifier_word qs)) ≡ all_sets qs
+unfolding all_sets
+alls_counted [] = refl
+alls_counted (int_q true ∷ qs) = alls_counted qs
+alls_counted (int_q false ∷ qs) = alls_counted qs
+alls_counted (set_q true ∷ qs) = alls_counted qs
+alls_counted (set_q false ∷ qs) = ap suc (alls_counted qs)
+alls_counted (count_q true ∷ qs) = alls_counted qs
+alls_counted (count_q false ∷ qs) = alls_counted qs
 
-all_none : (k : ℕ) → (k ≡ 4 → ⊥) → all_sets (quantifier_of (pos k) ∷ []) ≡ 0
-unfolding all_sets quantifier_of number
-all_none zero n = refl
-all_none (suc zero) n = refl
-all_none (suc (suc zero)) n = refl
-all_none (suc (suc (suc zero))) n = refl
-all_none (suc (suc (suc (suc zero)))) n = absurd (n refl)
-all_none (suc (suc (suc (suc (suc zero))))) n = refl
-all_none (suc (suc (suc (suc (suc (suc zero)))))) n = refl
-all_none (suc (suc (suc (suc (suc (suc (suc k))))))) n = refl
-
-module _ {ws : List ℤ} {shape : Shape} (s : Sound ws shape) (j k : ℕ) (h : j < shape.quantifiers) (e : k ≡ word_at ws (3 * shape.nodes + j)) where
-  abbrev qs : List Quantifier
-  qs = (claim_of ws).quantifiers
-
-  alls_step : all_sets (take (j + 1) qs) ≡ all_sets (take j qs) + all_sets (quantifier_of (pos k) ∷ [])
-  alls_step =
-      let l : j < length qs = omega (arith, s.quantifiers) in
-      let q : get_or qs j (int_q true) ≡ quantifier_of (pos k) = quantifier_at_lem ws shape.nodes j s.nodes l ∙ ap (λ n. quantifier_of (pos n)) (sym e) in
-      ap all_sets (next_taken qs (int_q true) j l) ∙ alls_append (take j qs) (get_or qs j (int_q true) ∷ []) ∙ ap (λ x. all_sets (take j qs) + all_sets (x ∷ [])) q
-
-  pub one_more : k ≡ 4 → all_sets (take (j + 1) qs) ≡ all_sets (take j qs) + 1
-  one_more is = alls_step ∙ ap (λ n. all_sets (take j qs) + n) (all_one k is)
-
-  pub none_more : (k ≡ 4 → ⊥) → all_sets (take (j + 1) qs) ≡ all_sets (take j qs)
-  none_more isnt = omega (arith, alls_step, all_none k isnt)
+middle : (xs ys zs : List ℤ) (a b : ℕ) → a ≡ length xs → b ≡ length ys → slice_range (xs ++ (ys ++ zs)) a (a + b) ≡ ys
+middle xs ys zs a b e f =
+    let n : a + b - a ≡ length ys = omega arith in
+    rw (n, e, drop-append_seam xs (ys ++ zs)) (take-append_seam ys zs)
 
 module _ {ws : List ℤ} {shape : Shape} (s : Sound ws shape) where
   pub regions_known : 1 * 2 ^ shape.sets % 2 ^ 64 ≡ region_count (claim_of ws)
   regions_known = regions_are shape.sets s.few_sets ∙ ap (λ n. 2 ^ n) s.sets
+
+  pub alls_in : count_by (λ w. int_eq w (pos 4)) (slice_range ws (3 * shape.nodes) (3 * shape.nodes + shape.quantifiers)) ≡ all_sets (claim_of ws).quantifiers
+  unfolding words_of
+  alls_in =
+      let c = claim_of ws in
+      let qs = map quantifier_word c.quantifiers in
+      let e : slice_range (words_of c) (3 * shape.nodes) (3 * shape.nodes + shape.quantifiers) ≡ qs =
+      middle (nodes_words c.nodes) qs (trailer c) _ _ (omega (arith, nodes_words-length c.nodes, s.nodes)) (omega (arith, length-map c.quantifiers quantifier_word, s.quantifiers)) in
+      rw (rw s.same at e) (sym (length-filter _ qs) ∙ alls_counted c.quantifiers)
 
   pub regions_some : 1 ≤ 1 * 2 ^ shape.sets % 2 ^ 64
   regions_some = omega (arith, regions_are shape.sets s.few_sets, pow_pos shape.sets)
 
   pub regions_few : 1 * 2 ^ shape.sets % 2 ^ 64 ≤ 2 ^ max_sets
   regions_few = rw (regions_are shape.sets s.few_sets) (pow-le-pow_right {n = 2} (omega arith) s.few_sets)
-
-pub alls_start : (qs : List Quantifier) → all_sets (take 0 qs) ≡ 0
-unfolding all_sets
-alls_start qs = refl
 
 -- ---- the whole
 

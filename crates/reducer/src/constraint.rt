@@ -46,10 +46,8 @@ fn put_constraint(out: &mut [i32], at: usize, frame: Frame) -> usize
     let level = frame.level;
     let regions = 1usize << level;
     let mut here = put_five(out, at, frame, 0);
-    let mut r = 1;
-    while r < regions {
+    for r in 1..regions {
         here = put_further(out, here, frame, r);
-        r += 1;
     }
     here
 }
@@ -122,9 +120,7 @@ pub fn put_constraints(
     ensures root_value { result.root ≡ (emission (claim_of words.now)).root }
 {
     let mut body = first;
-    let mut j = shape.quantifiers;
-    while 0 < j {
-        j -= 1;
+    for j in (0..shape.quantifiers).rev() {
         body = put_joined(words, shape, plan, j, out, body);
     }
     body

@@ -17,7 +17,6 @@ mod constraint; // the constraints of the set quantifiers
 mod quantifiers; // the emitted quantifiers
 mod size; // how much is emitted
 mod trailer; // the trailer
-mod words; // single words
 
 // How many numbers a word has for nodes or for quantifiers, from 0 on.
 const NUMBERS: usize = 2147483648;

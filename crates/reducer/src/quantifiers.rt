@@ -5,10 +5,11 @@ ghost use Rattle.emission.specs.Emission.{emission};
 ghost use Rattle.lent.specs.Write.{Wrote};
 ghost use Rattle.reducer.specs.Closing.{Prepared, becomes_at};
 
-use crate::words::put_repeated;
 use checker::Shape;
 use emission::kinds::{ALL_SETS, SOME_SET};
 use emission::plan::frame_at;
+use emission::write::word;
+use lent::{put, put_repeated};
 
 const SOME_COUNT: usize = 5;
 
@@ -30,9 +31,9 @@ fn put_quantifier(
     let level = frame.level;
     let kind = checker::word(words, 3 * shape.nodes + j);
     match kind {
-        SOME_SET => put_repeated(out, at, SOME_COUNT, 2 << level),
-        ALL_SETS => put_repeated(out, at, ALL_COUNTS, 2 << level),
-        _ => put_repeated(out, at, kind, 1),
+        SOME_SET => put_repeated(out, at, word(SOME_COUNT), 2 << level),
+        ALL_SETS => put_repeated(out, at, word(ALL_COUNTS), 2 << level),
+        _ => put(out, at, word(kind)),
     }
 }
 
@@ -46,12 +47,9 @@ pub fn put_quantifiers(
     requires { Prepared words.now shape plan.now × (at + length (emission (claim_of words.now)).quantifiers ≤ length out.old) }
     ensures { Wrote out.old at (map quantifier_word (emission (claim_of words.now)).quantifiers) out.new result }
 {
-    let quantifiers = shape.quantifiers;
     let mut here = at;
-    let mut j = 0;
-    while j < quantifiers {
+    for j in 0..shape.quantifiers {
         here = put_quantifier(words, shape, plan, j, out, here);
-        j += 1;
     }
     here
 }

@@ -29,21 +29,17 @@ impl Size {
 }
 
 // How many of the quantifiers are for-all quantifiers over sets.
+#[tactic(auto, using(checker::proofs::Claims::sound))]
 fn for_alls(words: &[i32], shape: Shape) -> usize
     requires { check_of words.now ≡ Ok shape }
     ensures { result ≡ all_sets (claim_of words.now).quantifiers }
 {
     let start = 3 * shape.nodes;
-    let quantifiers = shape.quantifiers;
-    let mut seen = 0;
-    let mut j = 0;
-    while j < quantifiers {
-        if checker::word(words, start + j) == ALL_SETS {
-            seen += 1;
-        }
-        j += 1;
-    }
-    seen
+    let kinds = &words[start..start + shape.quantifiers];
+    kinds
+        .iter()
+        .filter(|kind| **kind == ALL_SETS as i32)
+        .count()
 }
 
 // The nodes of the constraints: each region but the first was split off with six, and a for-all takes one more.

@@ -4,7 +4,7 @@ ghost use Rattle.checker.specs.Words.{mark};
 ghost use Rattle.lent.specs.Write.{Wrote};
 ghost use Rattle.emission.specs.Write.{max_number};
 
-use crate::words::put_number;
+use emission::write::word;
 
 const MARK: usize = 2005;
 
@@ -18,8 +18,6 @@ pub fn put_trailer(
     requires { (at + 4 ≤ length out.old) × (root ≤ max_number) × (nodes ≤ max_number) × (quantifiers ≤ max_number) }
     ensures { Wrote out.old at (pos root ∷ pos nodes ∷ pos quantifiers ∷ pos mark ∷ []) out.new result }
 {
-    let second = put_number(out, at, root);
-    let third = put_number(out, second, nodes);
-    let last = put_number(out, third, quantifiers);
-    put_number(out, last, MARK)
+    let words = [word(root), word(nodes), word(quantifiers), word(MARK)];
+    lent::put_all(out, at, &words)
 }

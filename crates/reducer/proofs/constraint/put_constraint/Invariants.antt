@@ -1,7 +1,4 @@
--- `reducer::constraint::put_constraint` meets its contract: if the first region's five nodes were
-use mathlib.Core.List.{List}
-use Prim.Native.Nat.{◌-◌, ◌≤◌}
-use lib.IntN.{ℤ}
+-- `reducer::constraint::put_constraint` meets its contract: the constraint of r regions is written before turn r.
 use Rattle.emission.specs.Emission.{counts, constraint}
 use Rattle.emission.specs.Plan.{place_in}
 use Rattle.emission.specs.Write.{WroteNodes}
@@ -9,8 +6,4 @@ use Rattle.reducer.proofs.constraint.put_constraint.Given as goal
 
 abbrev pub invariant-loop-r : goal.invariant-loop-r
 invariant-loop-r l =
-    (1 ≤ l.r) × (l.r ≤ l.regions)
-    × ((w : List ℤ) → WroteNodes w l.at (constraint (place_in l.frame) (counts l.frame.next) l.at 1) l.initial.out l.initial.here → WroteNodes w l.at (constraint (place_in l.frame) (counts l.frame.next) l.at l.r) l.out l.here)
-
-abbrev pub decreases-loop-r : goal.decreases-loop-r
-decreases-loop-r l = l.regions - l.r
+    WroteNodes l.fn.out l.at (constraint (place_in l.frame) (counts l.frame.next) l.at l.r) l.out l.here

@@ -1,11 +1,9 @@
--- `reducer::constraint::put_constraints` meets its contract: in the loop what the
--- quantifiers from number j on add is written. Assumes nothing.
+-- `reducer::constraint::put_constraints` meets its contract: what the quantifiers from number j on add is written before turn j. Assumes nothing.
 use mathlib.Core.Path.{◌≡◌, ap, ◌∙◌}
 use Prim.Native.Nat.{ℕ, ◌+◌, ◌-◌, ◌<◌}
 use native.Mathlib.Omega.{arith}
 use lib.Seq.{drop-length}
 use Rattle.checker.specs.Words.{claim_of}
-use Rattle.emission.specs.Emission as Emission
 use Rattle.emission.proofs.Writing.{nodes_long, nodes_none, nodes_then, room_after}
 use Rattle.reducer.specs.Closing.{closed_from}
 use Rattle.reducer.proofs.Joining.{known, closed_none, closed_all, closed_root, added_step, added_room}
@@ -17,46 +15,34 @@ back j h = omega arith
 
 pub loop-j-init : goal.loop-j-init
 loop-j-init c =
-    let p = c.requires.prepared.0 in
-    let claim = claim_of c.args.words.now in (
-      omega arith,
-      rw (closed_none claim c.args.shape.quantifiers (known p).quantifiers) c.requires.prepared.1,
-      rw (closed_none claim c.args.shape.quantifiers (known p).quantifiers, drop-length (Emission.body claim).nodes) (nodes_none _ _),
-    )
+    let none = closed_none (claim_of c.args.words.now) c.args.shape.quantifiers (known c.requires.prepared.0).quantifiers in
+    record { tells = rw none c.requires.prepared.1; wrote = rw (none, drop-length) (nodes_none _ _) }
 
 pub put_joined-body-requires : goal.put_joined-body-requires
 put_joined-body-requires c =
     let loop = c.loop-j in
     let p = c.requires.prepared.0 in
-    let claim = claim_of c.args.words.now in
-    let less = c.loop-j-test.true in
-    let up = back loop.j less in
-    let room = added_room claim (loop.j - 1) (omega (arith, (known p).quantifiers, loop.invariant.0, less)) in record {
-      prepared = (p, omega (arith, loop.invariant.0, less), rw up loop.invariant.1);
-      room = rw up (room_after _ (rw up at room) c.requires.room loop.invariant.2);
-    }
+    let up = back loop.j c.loop-j-test.true in
+    let room = added_room (claim_of c.args.words.now) (loop.j - 1) (omega (arith, (known p).quantifiers)) in
+    record { prepared = (p, omega arith, rw up loop.invariant.tells); room = rw up (room_after _ (rw up at room) c.requires.room loop.invariant.wrote) }
 
 pub loop-j-preserved : goal.loop-j-preserved
 loop-j-preserved c =
     let loop = c.loop-j in
-    let less = c.loop-j-test.true in
-    let up = back loop.j less in
-    let step = added_step (claim_of c.args.words.now) (loop.j - 1) (omega (arith, (known c.requires.prepared.0).quantifiers, loop.invariant.0, less)) in
-    let put = c.put_joined-body.ensures in (
-      omega (arith, loop.invariant.0),
-      put.tells,
-      nodes_then (rw up at step) loop.invariant.2 (rw up at put.wrote_nodes),
-    )
+    let up = back loop.j c.loop-j-test.true in
+    let step = added_step (claim_of c.args.words.now) (loop.j - 1) (omega (arith, (known c.requires.prepared.0).quantifiers)) in
+    let put = c.put_joined-body.ensures in
+    record { tells = put.tells; wrote = nodes_then (rw up at step) loop.invariant.wrote (rw up at put.wrote_nodes) }
 
 pub shape_of-out : goal.shape_of-out
-shape_of-out c =
-    nodes_long c.loop-j.invariant.2
+shape_of-out c = nodes_long c.loop-j.invariant.wrote
 
 pub returns : goal.returns
 returns c =
     let loop = c.loop-j in
     let claim = claim_of c.args.words.now in
-    let none : loop.j ≡ 0 = omega (arith, c.loop-j-test.false) in record {
-      wrote_nodes = rw (← closed_all claim, ← none) loop.invariant.2;
-      root_value = loop.invariant.1.root ∙ ap (λ j. (closed_from claim j).root) none ∙ closed_root claim;
+    let none : loop.j ≡ 0 = omega arith in
+    record {
+      wrote_nodes = rw (← closed_all claim, ← none) loop.invariant.wrote;
+      root_value = loop.invariant.tells.root ∙ ap (λ j. (closed_from claim j).root) none ∙ closed_root claim;
     }

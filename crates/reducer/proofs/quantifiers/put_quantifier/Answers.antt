@@ -1,7 +1,7 @@
 -- `reducer::quantifiers::put_quantifier` meets its contract: one law for each kind of quantifier. Assumes nothing.
 use mathlib.Core.Path.{sym, ◌∙◌}
 use native.Mathlib.Omega.{arith}
-use lib.ListN.{length-replicate}
+use Rattle.emission.proofs.Writing.{said}
 use Rattle.reducer.proofs.Joining.{known, in_claim, frame_within, other_kind}
 use Rattle.reducer.proofs.Becoming.{kind_small, some_becomes, all_becomes, number_becomes}
 use borrow.Author.Rules.{rules}
@@ -27,9 +27,8 @@ overflow_shl-level c =
 
 pub put_repeated-requires : goal.put_repeated-requires
 put_repeated-requires c =
-    let e = c.frame_at-frame.ensures in
-    let run = some_becomes c.requires.0 c.args.j c.requires.1 e (sym c.word-kind.ensures ∙ c.in-3.is) in
-    (rw length-replicate at (rw run at c.requires.2), search rules)
+    let run = some_becomes c.requires.0 c.args.j c.requires.1 c.frame_at-frame.ensures (sym c.word-kind.ensures ∙ c.in-3.is) in
+    rw (said _ c.word.type_inv, c.word.ensures, ← run) (record { fits = c.requires.2 })
 
 pub overflow_shl-level-in-4 : goal.overflow_shl-level-in-4
 overflow_shl-level-in-4 c =
@@ -37,30 +36,31 @@ overflow_shl-level-in-4 c =
 
 pub put_repeated-requires-in-4 : goal.put_repeated-requires-in-4
 put_repeated-requires-in-4 c =
-    let e = c.frame_at-frame.ensures in
-    let run = all_becomes c.requires.0 c.args.j c.requires.1 e (sym c.word-kind.ensures ∙ c.in-4.is) in
-    (rw length-replicate at (rw run at c.requires.2), search rules)
+    let run = all_becomes c.requires.0 c.args.j c.requires.1 c.frame_at-frame.ensures (sym c.word-kind.ensures ∙ c.in-4.is) in
+    rw (said _ c.word-in-4.type_inv, c.word-in-4.ensures, ← run) (record { fits = c.requires.2 })
 
-pub put_repeated-requires-in_default : goal.put_repeated-requires-in_default
-put_repeated-requires-in_default c =
+pub word-requires-in_default : goal.word-requires-in_default
+word-requires-in_default c =
+    omega (arith, kind_small c.requires.0 c.args.j c.requires.1 c.word-kind.result c.word-kind.ensures)
+
+pub put-requires : goal.put-requires
+put-requires c =
     let kind = c.word-kind in
     let run = number_becomes c.requires.0 c.args.j c.requires.1 kind.result kind.ensures (other_kind kind.result (search rules) (search rules)) in
-    (rw run at c.requires.2, omega (arith, kind_small c.requires.0 c.args.j c.requires.1 kind.result kind.ensures))
+    rw (said _ c.word-in_default.type_inv, c.word-in_default.ensures, ← run) (record { fits = c.requires.2 })
 
 pub returns-in-3 : goal.returns-in-3
 returns-in-3 c =
-    let e = c.frame_at-frame.ensures in
-    rw (some_becomes c.requires.0 c.args.j c.requires.1 e (sym c.word-kind.ensures ∙ c.in-3.is))
-    c.put_repeated.ensures
+    rw (some_becomes c.requires.0 c.args.j c.requires.1 c.frame_at-frame.ensures (sym c.word-kind.ensures ∙ c.in-3.is))
+    (rw (said _ c.word.type_inv, c.word.ensures) at c.put_repeated.ensures)
 
 pub returns-in-4 : goal.returns-in-4
 returns-in-4 c =
-    let e = c.frame_at-frame.ensures in
-    rw (all_becomes c.requires.0 c.args.j c.requires.1 e (sym c.word-kind.ensures ∙ c.in-4.is))
-    c.put_repeated-in-4.ensures
+    rw (all_becomes c.requires.0 c.args.j c.requires.1 c.frame_at-frame.ensures (sym c.word-kind.ensures ∙ c.in-4.is))
+    (rw (said _ c.word-in-4.type_inv, c.word-in-4.ensures) at c.put_repeated-in-4.ensures)
 
 pub returns-in_default : goal.returns-in_default
 returns-in_default c =
     let kind = c.word-kind in
     rw (number_becomes c.requires.0 c.args.j c.requires.1 kind.result kind.ensures (other_kind kind.result (search rules) (search rules)))
-    c.put_repeated-in_default.ensures
+    (rw (said _ c.word-in_default.type_inv, c.word-in_default.ensures) at c.put.ensures)
