@@ -1,10 +1,11 @@
 // The constraints: that each region is the sum of the two that a set splits it into, joined with the body.
-ghost use Rattle.std.specs.Prelude.{◌≡◌, [], ◌∷◌, ◌++◌, ◌+◌, ◌*◌, ◌-◌, ◌≤◌, ◌<◌, length};
+ghost use Rattle.std.specs.Prelude.{◌≡◌, [], ◌∷◌, ◌++◌, ◌+◌, ◌*◌, ◌-◌, ◌≤◌, ◌<◌, pos, length};
 ghost use Rattle.checker.specs.Claim.{conj, disj, neg};
 ghost use Rattle.checker.specs.Words.{claim_of};
 ghost use Rattle.emission.specs.Emission.{counts, last, five, body, emission};
 ghost use Rattle.emission.specs.Plan.{place_in};
 ghost use Rattle.emission.specs.Write.{max_number, Room, WroteNodes};
+ghost use Rattle.lent.specs.Write.{Wrote};
 ghost use Rattle.reducer.specs.Sizes.{constraint_part};
 ghost use Rattle.reducer.specs.Closing.{Prepared, constraint_in, Within, closed_from, added, Tells};
 
@@ -43,13 +44,24 @@ fn put_constraint(out: &mut [i32], at: usize, frame: Frame) -> usize
     requires { Room out.old at (length (constraint_in frame at)) × Within frame }
     ensures { WroteNodes out.old at (constraint_in frame at) out.new result }
 {
-    let level = frame.level;
-    let regions = 1usize << level;
+    let regions = 1usize << frame.level;
     let mut here = put_five(out, at, frame, 0);
     for r in 1..regions {
         here = put_further(out, here, frame, r);
     }
     here
+}
+
+// A node of a kind, of the node before and the body, which is the new body.
+fn put_join(out: &mut [i32], at: usize, kind: usize, root: usize) -> Body
+    requires { Room out.old at 1 × (1 ≤ at) × (kind ≤ max_number) × (root ≤ max_number) }
+    ensures wrote { Wrote out.old (3 * at) (pos kind ∷ pos (at - 1) ∷ pos root ∷ []) out.new (3 * result.nodes) }
+    ensures root_value { result.root ≡ at }
+{
+    Body {
+        nodes: put_node(out, at, kind, at - 1, root),
+        root: at,
+    }
 }
 
 // exists: and(constraint, body), which is the new body
@@ -58,13 +70,8 @@ fn put_some(out: &mut [i32], body: Body, frame: Frame) -> Body
     ensures wrote_nodes { WroteNodes out.old body.nodes (constraint_in frame body.nodes ++ conj (last body.nodes (constraint_in frame body.nodes)) body.root ∷ []) out.new result.nodes }
     ensures root_value { result.root ≡ result.nodes - 1 }
 {
-    let at = body.nodes;
-    let and = put_constraint(out, at, frame);
-    let next = put_node(out, and, AND, and - 1, body.root);
-    Body {
-        nodes: next,
-        root: and,
-    }
+    let and = put_constraint(out, body.nodes, frame);
+    put_join(out, and, AND, body.root)
 }
 
 // for all: not(constraint), and or(that, body), which is the new body
@@ -73,17 +80,13 @@ fn put_all(out: &mut [i32], body: Body, frame: Frame) -> Body
     ensures wrote_nodes { WroteNodes out.old body.nodes (constraint_in frame body.nodes ++ neg (last body.nodes (constraint_in frame body.nodes)) ∷ disj (body.nodes + length (constraint_in frame body.nodes)) body.root ∷ []) out.new result.nodes }
     ensures root_value { result.root ≡ result.nodes - 1 }
 {
-    let at = body.nodes;
-    let not = put_constraint(out, at, frame);
+    let not = put_constraint(out, body.nodes, frame);
     let or = put_node(out, not, NOT, not - 1, 0);
-    let next = put_node(out, or, OR, not, body.root);
-    Body {
-        nodes: next,
-        root: or,
-    }
+    put_join(out, or, OR, body.root)
 }
 
 // The constraint of quantifier j, if it binds a set, joined with the body, which is handed back anew.
+#[tactic(auto, using(checker::proofs::Claims::sound))]
 fn put_joined(
     words: &[i32],
     shape: Shape,

@@ -16,6 +16,7 @@ const SOME_COUNT: usize = 5;
 const ALL_COUNTS: usize = 6;
 
 // What quantifier j becomes.
+#[tactic(auto, using(checker::proofs::Claims::sound))]
 fn put_quantifier(
     words: &[i32],
     shape: Shape,
@@ -28,12 +29,10 @@ fn put_quantifier(
     ensures { Wrote out.old at (becomes_at (claim_of words.now) j) out.new result }
 {
     let frame = frame_at(plan, j);
-    let level = frame.level;
-    let kind = checker::word(words, 3 * shape.nodes + j);
-    match kind {
-        SOME_SET => put_repeated(out, at, word(SOME_COUNT), 2 << level),
-        ALL_SETS => put_repeated(out, at, word(ALL_COUNTS), 2 << level),
-        _ => put(out, at, word(kind)),
+    match checker::word(words, 3 * shape.nodes + j) {
+        SOME_SET => put_repeated(out, at, word(SOME_COUNT), 2 << frame.level),
+        ALL_SETS => put_repeated(out, at, word(ALL_COUNTS), 2 << frame.level),
+        kind => put(out, at, word(kind)),
     }
 }
 

@@ -47,8 +47,7 @@ fn constraint_nodes(words: &[i32], shape: Shape) -> usize
     requires { check_of words.now ≡ Ok shape }
     ensures { result ≡ length (constraint_part (claim_of words.now)) }
 {
-    let sets = shape.sets;
-    let regions = 1usize << sets;
+    let regions = 1usize << shape.sets;
     6 * (regions - 1) + for_alls(words, shape)
 }
 

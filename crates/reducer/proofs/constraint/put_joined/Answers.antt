@@ -10,15 +10,6 @@ frame_at-frame-requires c =
     let p = c.requires.prepared.0 in
     omega (arith, p.planned.long, in_claim p c.args.j c.requires.prepared.1)
 
-pub overflow_mul-shape : goal.overflow_mul-shape
-overflow_mul-shape c =
-    omega (arith, (known c.requires.prepared.0).few_nodes)
-
-pub overflow_add-shape : goal.overflow_add-shape
-overflow_add-shape c =
-    let all = known c.requires.prepared.0 in
-    omega (arith, all.few_nodes, all.few_quantifiers, c.requires.prepared.1)
-
 pub put_some-requires : goal.put_some-requires
 put_some-requires c =
     let pre = c.requires.prepared in
