@@ -1,7 +1,7 @@
 // The reducer: a claim is emitted as a counting claim, which has no sets and is true at the same sizes.
 #![tactic(auto)]
 
-ghost use Rattle.std.specs.Prelude.{◌≡◌, length};
+ghost use Rattle.std.specs.Prelude.{◌≡◌, ◌≤◌, length, replicate};
 ghost use Rattle.checker.specs.Claim.{Claim};
 ghost use Rattle.checker.specs.Words.{claim_of};
 ghost use Rattle.checker.specs.Check.{verdict, check_of};
@@ -10,6 +10,7 @@ ghost use Rattle.emission.specs.Emission.{emission};
 ghost use Rattle.reducer.specs.Reduced.{reducer_tests, answer, reduced_of, out_after, held_after};
 
 use checker::{Refusal, Shape};
+use region::{NARROW, NARROW_SETS, WIDE};
 use size::Size;
 
 mod closing; // what follows the nodes' runs
@@ -41,24 +42,25 @@ fn admit(size: Size, room: usize, shape: Shape) -> Result<Shape, Refusal>
     Ok(shape)
 }
 
-// What is emitted is counted first, so that a refusal writes nothing.
-fn reduce_claim(
+// With a table of patterns of N words. What is emitted is counted first, so that a refusal writes nothing.
+fn reduce_with<const N: usize>(
     words: &[i32],
     shape: Shape,
-    patterns: &mut [u64],
     out: &mut [i32],
 ) -> Result<usize, Refusal>
-    requires { (check_of words.now ≡ Ok shape) × Roomy shape patterns.old }
+    requires accepted { check_of words.now ≡ Ok shape }
+    requires few { N ≤ WIDE }
+    requires roomy { Roomy shape (replicate N 0) }
     ensures value { result ≡ answer (emission (claim_of words.now)) (verdict (reducer_tests (length out.old) (emission (claim_of words.now))) (Ok shape)) }
     ensures out_after { out.new ≡ held_after result (emission (claim_of words.now)) out.old }
 {
     let mut plan = [0usize; PLAN];
+    let mut patterns = [0u64; N];
     emission::plan::make(words, shape, &mut plan);
-    let first = emission::nodes::count(words, shape, &plan, patterns);
-    let runs = first.nodes;
-    let size = size::emitted(words, shape, &plan, runs);
+    let first = emission::nodes::count(words, shape, &plan, &mut patterns);
+    let size = size::emitted(words, shape, &plan, first.nodes);
     admit(size, out.len(), shape)?;
-    Ok(closing::put_emission(words, shape, &plan, patterns, out, first))
+    Ok(closing::put_emission(words, shape, &plan, &mut patterns, out, first))
 }
 
 // With a table of patterns as long as the sets of the claim ask for: clearing it is a good part of a short call.
@@ -67,12 +69,11 @@ fn reduce_accepted(words: &[i32], shape: Shape, out: &mut [i32]) -> Result<usize
     ensures value { result ≡ answer (emission (claim_of words.now)) (verdict (reducer_tests (length out.old) (emission (claim_of words.now))) (Ok shape)) }
     ensures out_after { out.new ≡ held_after result (emission (claim_of words.now)) out.old }
 {
-    if shape.sets <= region::NARROW_SETS {
-        let mut patterns = [0u64; region::NARROW];
-        return reduce_claim(words, shape, &mut patterns, out);
+    if shape.sets <= NARROW_SETS {
+        reduce_with::<NARROW>(words, shape, out)
+    } else {
+        reduce_with::<WIDE>(words, shape, out)
     }
-    let mut patterns = [0u64; region::WIDE];
-    reduce_claim(words, shape, &mut patterns, out)
 }
 
 // Writes the emission of the claim from the start of `out` on, and says how many words that takes.

@@ -1,7 +1,7 @@
 -- `reducer::constraint::put_joined` meets its contract: one law for each kind of quantifier. Assumes nothing.
 use mathlib.Core.Path.{sym, ◌∙◌}
 use native.Mathlib.Omega.{arith}
-use Rattle.reducer.proofs.Joining.{other_kind, known, in_claim, frame_within, root_small, some_room, some_done, all_room, all_done, number_done}
+use Rattle.reducer.proofs.Joining.{other_kind, in_claim, frame_within, root_small, some_room, some_done, all_room, all_done, number_done}
 use borrow.Author.Rules.{rules}
 use Rattle.reducer.proofs.constraint.put_joined.Goals as goal
 

@@ -2,7 +2,7 @@
 use mathlib.Core.Path.{sym, ◌∙◌}
 use native.Mathlib.Omega.{arith}
 use Rattle.emission.proofs.Writing.{said}
-use Rattle.reducer.proofs.Joining.{known, in_claim, frame_within, other_kind}
+use Rattle.reducer.proofs.Joining.{in_claim, frame_within, other_kind}
 use Rattle.reducer.proofs.Becoming.{kind_small, some_becomes, all_becomes, number_becomes}
 use borrow.Author.Rules.{rules}
 use Rattle.reducer.proofs.quantifiers.put_quantifier.Goals as goal

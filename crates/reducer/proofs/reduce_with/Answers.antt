@@ -1,4 +1,4 @@
--- `reducer::reduce_claim` meets its contract: what is admitted is written, and what is refused leaves
+-- `reducer::reduce_with` meets its contract: what is admitted is written, and what is refused leaves
 -- `out` as it was. Assumes nothing.
 use Rattle.std.proofs.Common.{ap, Err}
 use Rattle.std.proofs.lemmas.Result.{err_from_is_err_and}
@@ -10,28 +10,28 @@ use Rattle.emission.specs.Emission.{emission}
 use Rattle.reducer.proofs.Admitted.{admitted_room, emitted_answer, emitted_held, refused_answer, refused_held}
 use Rattle.checker.proofs.Claims.{sound}
 use Rattle.region.proofs.Pattern.{roomy_same}
-use Rattle.reducer.proofs.reduce_claim.Goals as goal
+use Rattle.reducer.proofs.reduce_with.Goals as goal
 
 pub make-requires : goal.make-requires
-make-requires c =
-    (c.requires.0, omega (arith, (sound c.args.words.now _ c.requires.0).few_quantifiers))
+make-requires g c =
+    (c.requires.accepted, omega (arith, (sound c.args.words.now _ c.requires.accepted).few_quantifiers))
 
 pub put_emission-requires : goal.put_emission-requires
-put_emission-requires c =
+put_emission-requires g c =
     let claim = emission (claim_of c.args.words.now) in
     let first = c.count-first.ensures.nodes_value in
     let size = c.emitted-size.ensures in
     let passed = sym (c.admit.ensures claim size.nodes_value size.quantifiers_value) ∙ c.in_ok-admit.was in record {
       prepared = (
-        record { accepted = c.requires.0; planned = c.make.ensures.planned },
+        record { accepted = c.requires.accepted; planned = c.make.ensures.planned },
         record { nodes = first.0; root = first.1 },
-        roomy_same c.count-first.auto.patterns c.requires.1,
+        roomy_same c.count-first.auto.patterns c.requires.roomy,
       );
       words_in_bounds = admitted_room claim (length c.args.out.now) c.args.shape passed;
     }
 
 pub returns : goal.returns
-returns c =
+returns g c =
     let claim = emission (claim_of c.args.words.now) in
     let size = c.emitted-size.ensures in
     let passed = sym (c.admit.ensures claim size.nodes_value size.quantifiers_value) ∙ c.in_ok-admit.was in
@@ -42,7 +42,7 @@ returns c =
     }
 
 pub returns-in_err-admit : goal.returns-in_err-admit
-returns-in_err-admit c =
+returns-in_err-admit g c =
     let claim = emission (claim_of c.args.words.now) in
     let size = c.emitted-size.ensures in
     let r = err_from_is_err_and c.from_residual.result c.from_residual.ensures.1 in
