@@ -14,11 +14,8 @@ use decider::Decision;
 fn put_row(values: &[u64], row: &mut [u64])
     ensures { row.new ≡ with_row values.now row.old }
 {
-    let mut i = 0;
-    while i < values.len() && i < row.len() {
-        row[i] = values[i];
-        i += 1;
-    }
+    let n = values.len().min(row.len());
+    row[..n].copy_from_slice(&values[..n]);
 }
 
 fn put_refusal(refusal: Refusal, row: &mut [u64])
