@@ -15,17 +15,17 @@ abbrev pub value_row : ℕ → ℕ → List ℕ
 value_row outcome n = outcome ∷ 0 ∷ 0 ∷ n ∷ 0 ∷ 0 ∷ 0 ∷ []
 
 -- nodes, quantifiers, set quantifiers, root
-unfoldable pub check_row : Result Shape Refusal → List ℕ
+abbrev pub check_row : Result Shape Refusal → List ℕ
 check_row (Ok s) = 1 ∷ 0 ∷ 0 ∷ s.nodes ∷ s.quantifiers ∷ s.sets ∷ s.root ∷ []
 check_row (Err r) = refused_row r
 
 -- the words emitted
-unfoldable pub reduce_row : Result ℕ Refusal → List ℕ
+abbrev pub reduce_row : Result ℕ Refusal → List ℕ
 reduce_row (Ok n) = value_row 1 n
 reduce_row (Err r) = refused_row r
 
 -- the steps
-unfoldable pub decide_row : Result Decision Refusal → List ℕ
+abbrev pub decide_row : Result Decision Refusal → List ℕ
 decide_row (Ok (decision.True n)) = value_row 1 n
 decide_row (Ok (decision.False n)) = value_row 2 n
 decide_row (Ok (decision.Spent n)) = value_row 3 n
