@@ -1,8 +1,6 @@
-pub mod Parts
 pub mod Signs
 pub mod Decimals
 pub mod Lines
 pub mod Numbers
 pub mod Words
-pub mod Pieces
 pub mod Readings

@@ -16,7 +16,7 @@ use lib.Signed.{lt_z}
 use mir.Syntax.{w32}
 use mir.Val.{SFits}
 use Rattle.decimal.specs.Reading.{minus, most_negative}
-use Rattle.decimal.specs.Printing.{space, line_feed, decimal, word_text, ending, line_text}
+use Rattle.decimal.specs.Printing.{decimal, word_text, ending, line_text}
 use Rattle.decimal.proofs.Decimals.{decimal-length}
 
 pub negative_text : (z : ℤ) → lt_z z (pos 0) ≡ true → word_text z ≡ minus ∷ decimal (nat_abs z)
@@ -36,14 +36,6 @@ word_digits z f = decimal-length 9 (nat_abs z) (lt_of_le_of_lt (small z f) (lit<
     small : (z : ℤ) → SFits w32 z → nat_abs z ≤ most_negative
     small (pos n) f = omega (arith, f.sfits)
     small (negsuc n) f = omega (arith, f.sfits)
-
-pub ending_none : (ws : List ℤ) → length ws ≡ 0 → line_feed ≡ ending ws
-ending_none [] e = refl
-ending_none (w ∷ ws) e = absurd (omega arith)
-
-pub ending_some : (ws : List ℤ) → (length ws ≡ 0 → ⊥) → space ≡ ending ws
-ending_some [] h = absurd (h refl)
-ending_some (w ∷ ws) h = refl
 
 pub line_none : (ws : List ℤ) (i : ℕ) → length ws ≤ i → line_text (drop i ws) ≡ []
 unfolding line_text

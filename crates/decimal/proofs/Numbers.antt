@@ -1,29 +1,16 @@
 -- A number read digit by digit: what is left of the digits decides.
 -- Assumes nothing.
-use mathlib.Core.Path.{◌≡◌, refl}
-use mathlib.Core.Bool.{Bool, true, false, cond, ◌&&◌, and-eq-true_iff}
-use mathlib.Core.List.{List, [], ◌∷◌}
-use Prim.Native.Nat.{ℕ, ◌+◌, ◌*◌, ◌-◌, ◌≤◌}
-use native.Mathlib.Nat.{le_refl}
-use native.Mathlib.Omega.{arith}
-use borrow.Author.Tests.{leb-true, leb-false, le-leb, lt-leb}
-use lib.Dec.{leb}
-use lib.ListN.{length}
-use Rattle.decimal.specs.declared.Number.{Number}
-use Rattle.decimal.specs.declared.Number.TheVariants.{Value, NoNumber}
-use Rattle.decimal.specs.Reading.{digit, is_number, value_after, digits, number_in, next_in}
-
-pub taken : (t : Bool) (v m : ℕ) → cond t (Value v) NoNumber ≡ Value m → (t ≡ true) × (v ≡ m)
-taken true v m e = (refl, cc)
-taken false v m e = let z : ◌≡◌ {A = ℕ} 0 1 = cc in absurd (omega arith)
-
-pub left : (t : Bool) (v : ℕ) → cond t (Value v) NoNumber ≡ NoNumber → t ≡ false
-left true v e = let z : ◌≡◌ {A = ℕ} 0 1 = cc in absurd (omega arith)
-left false v e = refl
+use Rattle.std.proofs.Common.{◌≡◌, ℕ, ◌+◌, ◌*◌, ◌-◌, ◌<◌, ◌≤◌, cond, ◌&&◌, leb, List, [], ◌∷◌, length, drop, get_or, Option, Some, None, refl, arith, le_refl, zero-le}
+use Rattle.std.specs.Option.{option_and_then}
+use Rattle.std.proofs.lemmas.Bool.Decides.{nat_tests}
+use Rattle.std.proofs.lemmas.Option.{cond_some}
+use Rattle.std.proofs.lemmas.List.{at_drop_more, at_drop_all}
+use Rattle.decimal.specs.Reading.{value_after, digits, number_in, next_in}
 
 -- the number that digits make after those that say n
-unfoldable pub number_from : ℕ → ℕ → List ℕ → Number
-number_from most n ds = cond (digits ds && leb (value_after n ds) most) (Value (value_after n ds)) NoNumber
+abbrev pub number_from : ℕ → ℕ → List ℕ → Option ℕ
+number_from most n [] = Some n
+number_from most n (d ∷ ds) = option_and_then (λ m. number_from most m ds) (next_in most n d)
 
 -- further digits make no number smaller
 value_more : (n : ℕ) (ds : List ℕ) → n ≤ value_after n ds
@@ -31,48 +18,36 @@ unfolding value_after
 value_more n [] = le_refl n
 value_more n (d ∷ ds) = omega (arith, value_more (10 * n + (d - 48)) ds)
 
-pub number_none : (most : ℕ) (ds : List ℕ) → length ds ≡ 0 → NoNumber ≡ number_in most ds
+number_left : (most n : ℕ) (ds : List ℕ) → n ≤ most
+    → number_from most n ds ≡ cond (digits ds && leb (value_after n ds) most) (Some (value_after n ds)) None
+unfolding value_after digits next_in
+number_left most n [] h = grind (arith, nat_tests)
+number_left most n (d ∷ ds) h =
+    let more = value_more (10 * n + (d - 48)) ds in
+    let rest = number_left most (10 * n + (d - 48)) ds in
+    grind (arith, nat_tests)
+
+pub number_none : (most : ℕ) (ds : List ℕ) → length ds ≡ 0 → number_in most ds ≡ None
 unfolding number_in
-number_none most [] e = refl
-number_none most (d ∷ ds) e = absurd (omega arith)
+number_none most [] h = refl
+number_none most (d ∷ ds) h = absurd (omega arith)
 
-pub number_start : (most : ℕ) (ds : List ℕ) → (length ds ≡ 0 → ⊥) → number_in most ds ≡ number_from most 0 ds
-unfolding number_in number_from
-number_start most [] h = absurd (h refl)
-number_start most (d ∷ ds) h = refl
-
-pub number_within : (most n : ℕ) (ds : List ℕ) → number_in most ds ≡ Value n → n ≤ most
+pub number_some : (most : ℕ) (ds : List ℕ) → (length ds ≡ 0 → ⊥) → number_in most ds ≡ number_from most 0 ds
 unfolding number_in
-number_within most n ds e =
-    let t = taken _ _ n e in
-    rw t.1 at (leb-true _ most ((and-eq-true_iff (is_number ds) _).0 t.0).1)
+number_some most [] h = absurd (h refl)
+number_some most (d ∷ ds) h = rw (number_left most 0 (d ∷ ds) (zero-le))
 
-pub number_end : (most n : ℕ) → n ≤ most → number_from most n [] ≡ Value n
-unfolding number_from value_after digits
-number_end most n h = rw (le-leb n most h)
+pub number_within : (most n : ℕ) (ds : List ℕ) → number_in most ds ≡ Some n → n ≤ most
+unfolding number_in
+number_within most n ds e = grind (arith, nat_tests, cond_some)
 
--- a digit that is none, or takes the number over its limit, does so whatever follows
-over : (a x b y : Bool) → a && b ≡ false → (b ≡ false → y ≡ false) → (a && x) && y ≡ false
-over true true b y e h = h e
-over true false b y e h = refl
-over false x b y e h = refl
+-- ---- what is left of the digits from place i on
 
-module _ (most n d : ℕ) where
-  pub next_within : (m : ℕ) → next_in most n d ≡ Value m → m ≤ most
-  unfolding next_in
-  next_within m e =
-      let t = taken _ _ m e in
-      rw t.1 at (leb-true _ most ((and-eq-true_iff (digit d) _).0 t.0).1)
+pub number_more : (most n i : ℕ) (ds : List ℕ) → i < length ds
+    → number_from most n (drop i ds) ≡ option_and_then (λ m. number_from most m (drop (i + 1) ds)) (next_in most n (get_or ds i 0))
+number_more most n i ds h = at_drop_more (number_from most n) ds i 0 h
 
-  pub number_step : (ds : List ℕ) (m : ℕ) → next_in most n d ≡ Value m → number_from most n (d ∷ ds) ≡ number_from most m ds
-  unfolding next_in number_from value_after digits
-  number_step ds m e =
-      let t = taken _ _ m e in
-      rw (((and-eq-true_iff (digit d) _).0 t.0).0, t.1)
+pub number_done : (most n i : ℕ) (ds : List ℕ) → length ds ≤ i → number_from most n (drop i ds) ≡ Some n
+number_done most n i ds h = at_drop_all (number_from most n) ds i h
 
-  pub number_stop : (ds : List ℕ) → next_in most n d ≡ NoNumber → NoNumber ≡ number_from most n (d ∷ ds)
-  unfolding next_in number_from value_after digits
-  number_stop ds e =
-      let v = 10 * n + (d - 48) in
-      let low = value_more v ds in
-      rw (over (digit d) (digits ds) (leb v most) (leb (value_after v ds) most) (left _ v e) (λ q. lt-leb (value_after v ds) most (omega (arith, leb-false v most q))))
+pub ruleset numbers = (number_none, number_some, number_more, number_done)

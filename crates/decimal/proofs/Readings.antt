@@ -1,99 +1,118 @@
--- A text read word by word into a list: the words so far stand at its front, and what is left of the text decides about the rest.
+-- A text read piece by piece into a list: the words so far stand at its front, and the pieces that are left decide about the rest.
 -- Assumes nothing.
-use mathlib.Core.Path.{◌≡◌, refl, sym, ap, ◌∙◌}
-use mathlib.Core.Bool.{Bool, true, false, cond}
-use mathlib.Core.List.{List, [], ◌∷◌, ◌++◌, append-nil}
-use Prim.Native.Nat.{ℕ, suc, ◌+◌, ◌-◌, ◌<◌, ◌≤◌}
+use Rattle.std.proofs.Common.{◌≡◌, ◌≢◌, ℕ, zero, suc, ◌+◌, ◌-◌, ◌≤◌, Bool, true, false, not, cond, eqb, List, [], ◌∷◌, ◌++◌, ℤ, length, take, drop, set, Option, Some, None, refl, sym, ap, ◌∙◌, arith, add-one, ne_eqb, append-nil, length-set, take-append-drop, length-take-le, drop-drop}
+use Rattle.std.specs.List.{slice_split, onto_first, filter}
+use Rattle.std.proofs.Math.Seq.{take-suc-set, drop-set-lt, append_snoc}
+use Rattle.std.proofs.lemmas.Iterator.{YieldsList}
 use native.Mathlib.Nat.{sub-zero}
-use native.Mathlib.Numerals.{add-one}
-use native.Mathlib.Omega.{arith}
-use lib.IntN.{ℤ}
-use lib.ListN.{length, take, drop, get_or, set, length-drop, length-set, take-append-drop, drop_of_length-le}
-use lib.Seq.{drop-cons, drop-drop, append_snoc, length-take-le, take-suc-set, drop-set-lt}
-use Rattle.decimal.specs.declared.Scanned.{Scanned}
-use Rattle.decimal.specs.declared.Scanned.TheVariants.{Words, NoWords}
-use Rattle.decimal.specs.declared.Word.TheVariants as word
-use Rattle.decimal.specs.Reading.{blank, word_in, Reading, after, read_text, first_piece, scanned_of, onto}
-use Rattle.decimal.proofs.Words.{no_word, some_word}
-use Rattle.decimal.proofs.Pieces.{first_short, read_none, read_blank, read_full, read_word, read_other}
+use Rattle.decimal.specs.Reading.{blank, is_word, on_first, pieces, word_in, Reading, stopped, after, read_pieces, read_text, scanned_of, onto}
+
+-- ---- what one call of `next` says of the items that an iterator has left
+
+module _ {S A B : Type 0} {steps : S → Option A → S → Type 0} {v : A → B} {s : S} (t : S) where
+  pub none_left : (items : List B) → YieldsList steps v s items → steps s None t → items ≡ []
+  none_left [] y h = refl
+  none_left (i ∷ is) y h = absurd (y.runs.0 t h)
+
+  pub next_left : (items : List B) (x : A) → YieldsList steps v s items → steps s (Some x) t → (more : List B) × (items ≡ v x ∷ more) × YieldsList steps v t more
+  next_left [] x y h = absurd (y.runs x t h)
+  next_left (i ∷ is) x y h = let next = y.runs.1 x t h in (is, ap (λ (j : B). j ∷ is) (sym next.0), record { runs = next.1 })
+
+-- ---- the pieces that are not empty
+
+abbrev pub has_bytes : List ℕ → Bool
+has_bytes p = not (eqb (length p) 0)
+
+abbrev pub filled_pieces : List ℕ → List (List ℕ)
+filled_pieces text = filter has_bytes (slice_split blank text)
+
+on_first_lem : (b : ℕ) (ps : List (List ℕ)) → on_first b ps ≡ onto_first b ps
+on_first_lem b [] = refl
+on_first_lem b (p ∷ ps) = refl
+
+pieces_split : (text : List ℕ) → pieces text ≡ slice_split blank text
+unfolding pieces
+pieces_split [] = refl
+pieces_split (b ∷ bs) = rw (pieces_split bs, on_first_lem)
+
+-- what a word makes of the reading of the pieces after it, and so does a piece that is no word
+abbrev taking : Option ℤ → Reading → Reading
+taking None r = stopped
+taking (Some w) r = after w r
+
+taking_lem : (t : Bool) (w : ℤ) (r : Reading) → cond t (after w r) stopped ≡ taking (cond t (Some w) None) r
+taking_lem true w r = refl
+taking_lem false w r = refl
+
+abbrev pub read_filled : ℕ → List (List ℕ) → Reading
+read_filled room [] = record { words = []; all = true }
+read_filled zero (p ∷ ps) = stopped
+read_filled (suc room) (p ∷ ps) = taking (word_in p) (read_filled room ps)
+
+read_pieces_lem : (room : ℕ) (ps : List (List ℕ)) → read_pieces room ps ≡ read_filled room (filter has_bytes ps)
+unfolding read_pieces word_in
+read_pieces_lem room [] = refl
+read_pieces_lem room ([] ∷ ps) = read_pieces_lem room ps
+read_pieces_lem zero ((b ∷ bs) ∷ ps) = rw (ne_eqb (suc (length bs)) 0 (omega arith))
+read_pieces_lem (suc room) ((b ∷ bs) ∷ ps) = rw (ne_eqb (suc (length bs)) 0 (omega arith), read_pieces_lem room ps) (taking_lem (is_word (b ∷ bs)) _ _)
+
+read_text_lem : (room : ℕ) (text : List ℕ) → read_text room text ≡ read_filled room (filled_pieces text)
+unfolding read_text
+read_text_lem room text = rw (read_pieces_lem, pieces_split)
+
+-- ---- what is left
 
 -- words, and then those of a reading
 abbrev ahead : List ℤ → Reading → Reading
 ahead ws r = record { words = ws ++ r.words; all = r.all }
 
-pub record Left (text : List ℕ) (out₀ : List ℤ) (out : List ℤ) (count at : ℕ) : Type 0 where
-  pub low : at ≤ length text
+pub record Left (text : List ℕ) (out₀ out : List ℤ) (count : ℕ) (ps : List (List ℕ)) : Type 0 where
   pub few : count ≤ length out₀
   pub long : length out ≡ length out₀
   pub kept : drop count out ≡ drop count out₀
-  pub reads : read_text (length out₀) text ≡ ahead (take count out) (read_text (length out₀ - count) (drop at text))
+  pub reads : read_text (length out₀) text ≡ ahead (take count out) (read_filled (length out₀ - count) ps)
 
 -- what the reading comes to: the answer, and the words
-pub record Read (text : List ℕ) (out₀ out : List ℤ) (answer : Scanned) : Type 0 where
+pub record Read (text : List ℕ) (out₀ out : List ℤ) (answer : Option ℕ) : Type 0 where
   pub says : answer ≡ scanned_of (read_text (length out₀) text)
   pub holds : out ≡ onto out₀ (read_text (length out₀) text)
 
-pub left_start : (text : List ℕ) (out : List ℤ) → Left text out out 0 0
-left_start text out = record { low = omega arith; few = omega arith; long = refl; kept = refl; reads = rw (sub-zero (length out)) }
+pub left_start : (text : List ℕ) (out : List ℤ) → Left text out out 0 (filled_pieces text)
+left_start text out = record { few = omega arith; long = refl; kept = refl; reads = rw sub-zero (read_text_lem (length out) text) }
 
-module _ (text : List ℕ) (out₀ out : List ℤ) (count at : ℕ) (l : Left text out₀ out count at) where
+module _ {text : List ℕ} {out₀ out : List ℤ} {count : ℕ} where
   -- nothing more is read
-  ended : (t : Bool) → read_text (length out₀ - count) (drop at text) ≡ record { words = []; all = t }
-      → read_text (length out₀) text ≡ record { words = take count out; all = t }
-  ended t e = rw (l.reads, e, append-nil (take count out))
-
-  read_off : (t : Bool) (answer : Scanned) → read_text (length out₀ - count) (drop at text) ≡ record { words = []; all = t }
-      → answer ≡ cond t (Words count) NoWords → Read text out₀ out answer
+  read_off : {ps : List (List ℕ)} (t : Bool) → Left text out₀ out count ps → read_filled (length out₀ - count) ps ≡ record { words = []; all = t }
+      → Read text out₀ out (cond t (Some count) None)
   unfolding scanned_of onto
-  read_off t answer e a =
+  read_off t l e =
       let n : length (take count out) ≡ count = length-take-le count out (omega (arith, l.few, l.long)) in
-      record {
-        says = a ∙ rw (ended t e, n);
-        holds = rw (ended t e, n, ← l.kept) (sym (take-append-drop count out));
-      }
+      let whole : read_text (length out₀) text ≡ record { words = take count out; all = t } = rw (l.reads, e, append-nil (take count out)) in
+      record { says = rw (whole, n); holds = rw (whole, n, ← l.kept) (sym (take-append-drop count out)) }
 
-  pub left_end : length text ≤ at → Read text out₀ out (Words count)
-  left_end h = read_off true (Words count) (rw (drop_of_length-le text h) (read_none (length out₀ - count))) refl
+  pub left_end : Left text out₀ out count [] → Read text out₀ out (Some count)
+  left_end l = read_off true l refl
 
-  module _ (h : at < length text) where
-    pub left_blank : blank (get_or text at 0) ≡ true → Left text out₀ out count (at + 1)
-    left_blank e =
-        record {
-          low = omega arith;
-          few = l.few;
-          long = l.long;
-          kept = l.kept;
-          reads = l.reads ∙ rw (drop-cons text at 0 h, read_blank (length out₀ - count) _ _ e, add-one at);
-        }
+  module _ {p : List ℕ} {ps : List (List ℕ)} (l : Left text out₀ out count (p ∷ ps)) where
+    pub left_full : count ≡ length out → Read text out₀ out None
+    left_full e =
+        let z : length out₀ - count ≡ 0 = omega (arith, l.long) in
+        read_off false l (rw z)
 
-    module _ (dark : blank (get_or text at 0) ≡ false) where
-      pub left_full : count ≡ length out → Read text out₀ out NoWords
-      left_full e =
-          let z : length out₀ - count ≡ 0 = omega (arith, l.long) in
-          read_off false NoWords (rw z (read_full (drop-cons text at 0 h) dark)) refl
+    module _ (room : count ≢ length out) where
+      one_more : length out₀ - count ≡ suc (length out₀ - (count + 1))
+      one_more = omega (arith, l.few, l.long)
 
-      module _ (room : count ≡ length out → ⊥) where
-        one_more : length out₀ - count ≡ suc (length out₀ - (count + 1))
-        one_more = omega (arith, l.few, l.long)
+      pub left_other : word_in p ≡ None → Read text out₀ out None
+      left_other e = read_off false l (rw (one_more, e))
 
-        pub left_other : word_in (first_piece (drop at text)) ≡ word.NoWord → Read text out₀ out NoWords
-        left_other e =
-            read_off false NoWords (rw one_more (read_other (drop-cons text at 0 h) dark (length out₀ - (count + 1)) (no_word _ e))) refl
-
-        pub left_word : (w : ℤ) → word_in (first_piece (drop at text)) ≡ word.Value w
-            → Left text out₀ (set out count w) (count + 1) (at + length (first_piece (drop at text)))
-        left_word w e =
-            let p = first_piece (drop at text) in
-            let r = length out₀ - (count + 1) in
-            let t = some_word p w e in
-            let next : read_text (length out₀ - count) (drop at text) ≡ after w (read_text r (drop (at + length p) text)) =
-            rw one_more (read_word (drop-cons text at 0 h) dark r t.0 ∙ rw (t.1, drop-drop (length p) at text)) in
-            let front : take (count + 1) (set out count w) ≡ take count out ++ (w ∷ []) =
-            rw (add-one count) (take-suc-set out count w (omega (arith, l.few, l.long))) in
-            record {
-              low = omega (arith, first_short (drop at text), length-drop at text);
-              few = omega (arith, l.few, l.long);
-              long = length-set out count w ∙ l.long;
-              kept = drop-set-lt (count + 1) out count w (omega arith) ∙ sym (drop-drop 1 count out) ∙ ap (drop 1) l.kept ∙ drop-drop 1 count out₀;
-              reads = l.reads ∙ rw (next, front, append_snoc (take count out) w (read_text r (drop (at + length p) text)).words);
-            }
+      pub left_word : (w : ℤ) → word_in p ≡ Some w → Left text out₀ (set out count w) (count + 1) ps
+      left_word w e =
+          let front : take (count + 1) (set out count w) ≡ take count out ++ (w ∷ []) =
+          rw (add-one count) (take-suc-set out count w (omega (arith, l.few, l.long))) in
+          record {
+            few = omega (arith, l.few, l.long);
+            long = length-set out count w ∙ l.long;
+            kept = drop-set-lt (count + 1) out count w (omega arith) ∙ sym (drop-drop 1 count out) ∙ ap (drop 1) l.kept ∙ drop-drop 1 count out₀;
+            reads = l.reads ∙ rw (one_more, e, front, append_snoc (take count out) w _);
+          }

@@ -1,12 +1,6 @@
 -- Numbers and words in a text (01, refusal 0): decimal numbers in signed 32-bit range, with spaces, CR or LF between, before or after.
 -- Assumes nothing.
-use Rattle.std.specs.Prelude.{Bool, true, false, cond, ◌&&◌, ◌||◌, List, [], ◌∷◌, ◌++◌, ℕ, zero, suc, ◌+◌, ◌*◌, ◌-◌, leb, eqb, ℤ, pos, neg_ℤ, length, drop, get_or}
-use Rattle.decimal.specs.declared.Number.{Number}
-use Rattle.decimal.specs.declared.Number.TheVariants as number
-use Rattle.decimal.specs.declared.Word.{Word}
-use Rattle.decimal.specs.declared.Word.TheVariants as word
-use Rattle.decimal.specs.declared.Scanned.{Scanned}
-use Rattle.decimal.specs.declared.Scanned.TheVariants.{Words, NoWords}
+use Rattle.std.specs.Prelude.{Bool, true, false, cond, ◌&&◌, ◌||◌, List, [], ◌∷◌, ◌++◌, ℕ, zero, suc, ◌+◌, ◌*◌, ◌-◌, leb, eqb, ℤ, pos, neg_ℤ, length, drop, Option, Some, None}
 
 -- ---- bytes
 
@@ -93,22 +87,19 @@ read_text room text = read_pieces room (pieces text)
 -- ---- what the functions answer
 
 -- a number of at most `most`
-unfoldable pub number_in : ℕ → List ℕ → Number
-number_in most ds = cond (is_number ds && leb (value ds) most) (number.Value (value ds)) number.NoNumber
+unfoldable pub number_in : ℕ → List ℕ → Option ℕ
+number_in most ds = cond (is_number ds && leb (value ds) most) (Some (value ds)) None
 
 -- the number that a further digit makes of n
-unfoldable pub next_in : ℕ → ℕ → ℕ → Number
-next_in most n d = cond (digit d && leb (10 * n + (d - 48)) most) (number.Value (10 * n + (d - 48))) number.NoNumber
+unfoldable pub next_in : ℕ → ℕ → ℕ → Option ℕ
+next_in most n d = cond (digit d && leb (10 * n + (d - 48)) most) (Some (10 * n + (d - 48))) None
 
-unfoldable pub word_in : List ℕ → Word
-word_in t = cond (is_word t) (word.Value (word_of t)) word.NoWord
+unfoldable pub word_in : List ℕ → Option ℤ
+word_in t = cond (is_word t) (Some (word_of t)) None
 
--- the bytes before the first blank
-unfoldable pub first_piece : List ℕ → List ℕ
-first_piece t = get_or (pieces t) 0 []
-
-unfoldable pub scanned_of : Reading → Scanned
-scanned_of r = cond r.all (Words (length r.words)) NoWords
+-- how many words a reading has, if it read all of them
+unfoldable pub scanned_of : Reading → Option ℕ
+scanned_of r = cond r.all (Some (length r.words)) None
 
 -- the words that were read, at the front of a list, and then what stood there
 unfoldable pub onto : List ℤ → Reading → List ℤ

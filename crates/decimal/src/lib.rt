@@ -7,24 +7,3 @@ mod read; // numbers and words read out of a text
 
 pub use print::{magnitude, put_byte, put_bytes, put_decimal, put_line, put_word};
 pub use read::{negative, read_number, read_words};
-
-// A number, or something else.
-#[derive(Clone, Copy)]
-pub enum Number {
-    Value(u64),
-    NoNumber,
-}
-
-// A word, or something else.
-#[derive(Clone, Copy)]
-pub enum Word {
-    Value(i32),
-    NoWord,
-}
-
-// As many words as that; or something else than words, or more of them than there is room for.
-#[derive(Clone, Copy)]
-pub enum Scanned {
-    Words(usize),
-    NoWords,
-}

@@ -7,20 +7,14 @@ pub fn put_byte(out: &mut [u8], at: usize, b: u8) -> usize
     requires { Room out.old at (b ∷ []) }
     ensures { Wrote out.old at (b ∷ []) out.new result }
 {
-    out[at] = b;
-    at + 1
+    lent::put(out, at, b)
 }
 
 pub fn put_bytes(out: &mut [u8], at: usize, s: &[u8]) -> usize
     requires { Room out.old at s.now }
     ensures { Wrote out.old at s.now out.new result }
 {
-    let mut i = 0;
-    while i < s.len() {
-        out[at + i] = s[i];
-        i += 1;
-    }
-    at + i
+    lent::put_all(out, at, s)
 }
 
 // The byte of a digit.
@@ -28,7 +22,7 @@ fn digit(n: u64) -> u8
     requires { n < 10 }
     ensures { result ≡ 48 + n }
 {
-    (48 + n) as u8
+    b'0' + n as u8
 }
 
 pub fn put_decimal(out: &mut [u8], at: usize, n: u64) -> usize
@@ -36,21 +30,17 @@ pub fn put_decimal(out: &mut [u8], at: usize, n: u64) -> usize
     ensures { Wrote out.old at (decimal n) out.new result }
 {
     if n < 10 {
-        return put_byte(out, at, digit(n));
+        return lent::put(out, at, digit(n));
     }
     let last = put_decimal(out, at, n / 10);
-    put_byte(out, last, digit(n % 10))
+    lent::put(out, last, digit(n % 10))
 }
 
 // A word without its sign.
 pub fn magnitude(w: i32) -> u64
     ensures { result ≡ nat_abs w }
 {
-    let x = w as i64;
-    if x < 0 {
-        return (0 - x) as u64;
-    }
-    x as u64
+    u64::from(w.unsigned_abs())
 }
 
 // A sign and ten digits at most.
@@ -59,22 +49,15 @@ pub fn put_word(out: &mut [u8], at: usize, w: i32) -> usize
     ensures wrote { Wrote out.old at (word_text w) out.new result }
     ensures upper_bound { result ≤ at + 11 }
 {
-    let n = magnitude(w);
-    if w < 0 {
-        let digits = put_byte(out, at, b'-');
-        return put_decimal(out, digits, n);
-    }
-    put_decimal(out, at, n)
+    let digits = if w < 0 { lent::put(out, at, b'-') } else { at };
+    put_decimal(out, digits, magnitude(w))
 }
 
 // The byte after a word that `rest` follows.
 fn ending(rest: &[i32]) -> u8
     ensures { result ≡ ending rest.now }
 {
-    if rest.len() == 0 {
-        return b'\n';
-    }
-    b' '
+    if rest.is_empty() { b'\n' } else { b' ' }
 }
 
 // Words with one space between, and a line feed; no words are no line.
@@ -84,11 +67,9 @@ pub fn put_line(out: &mut [u8], at: usize, words: &[i32]) -> usize
     ensures upper_bound { result ≤ at + 12 * length words.now }
 {
     let mut here = at;
-    let mut i = 0;
-    while i < words.len() {
-        let end = put_word(out, here, words[i]);
-        i += 1;
-        here = put_byte(out, end, ending(&words[i..]));
+    for (i, word) in words.iter().enumerate() {
+        let end = put_word(out, here, *word);
+        here = lent::put(out, end, ending(&words[i + 1..]));
     }
     here
 }

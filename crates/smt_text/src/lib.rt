@@ -11,8 +11,6 @@ ghost use Rattle.text.specs.Answer.{Printed};
 ghost use Rattle.smt_text.specs.Answer.{smt_text};
 ghost use Rattle.smt_text.specs.Lent.{fitted_text, fitted_words};
 
-use decimal::Scanned;
-
 // The writer takes every emission. Of words of 32 bits none has a text longer than the lent bytes, so that it refuses none either.
 fn put_text(words: &[i32], out: &mut [u8; 393216]) -> usize
     requires { check_as Emitted words.now ≡ Ok (claim_shape (claim_of words.now)) }
@@ -34,11 +32,12 @@ fn smt_words(words: &[i32], out: &mut [u8; 393216]) -> usize
     }
 }
 
+#[tactic(auto, using(text::proofs::Answers::readings), unfolding(crate::specs::Answer::smt_text))]
 pub fn answer_smt(input: &[u8], out: &mut [u8; 393216]) -> usize
     ensures { Printed out.old (smt_text input.now) out.new result }
 {
     let mut words = [0i32; 4096];
-    let Scanned::Words(count) = text::read_input(input, &mut words) else {
+    let Some(count) = text::read_input(input, &mut words) else {
         return text::put_unread(out);
     };
     smt_words(&words[..count], out)

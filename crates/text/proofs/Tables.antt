@@ -2,8 +2,9 @@
 -- Assumes nothing.
 use mathlib.Core.Path.{◌≡◌, refl, ap}
 use mathlib.Core.List.{List, [], ◌∷◌, ◌++◌, map}
-use Prim.Native.Nat.{ℕ, suc, ◌+◌, ◌*◌, ◌-◌, ◌<◌, ◌≤◌}
+use Prim.Native.Nat.{ℕ, zero, suc, ◌+◌, ◌*◌, ◌-◌, ◌<◌, ◌≤◌}
 use native.Mathlib.Omega.{arith}
+use Rattle.std.proofs.lemmas.List.{take-take, drop-take}
 use lib.IntN.{ℤ}
 use lib.ListN.{length, take, drop, length-take, length-drop, length-map}
 use lib.Seq.{drop-drop, take_at, drop_at}
@@ -19,20 +20,26 @@ use Rattle.text.specs.Lines.{node_lines}
 pub part_length : (ws : List ℤ) (a b : ℕ) → b ≤ length ws → length (take (b - a) (drop a ws)) ≡ b - a
 part_length ws a b h = rw (length-take, length-drop) (omega arith)
 
-pub lines_none : (n i : ℕ) (ws : List ℤ) → n ≤ i → node_lines (n - i) ws ≡ []
+-- the lines of n nodes are those of their words alone
+pub lines_taken : (n : ℕ) (ws : List ℤ) → node_lines n (take (3 * n) ws) ≡ node_lines n ws
 unfolding node_lines
-lines_none n i ws h =
-    let e : n - i ≡ 0 = omega arith in
-    ap (λ k. node_lines k ws) e
+lines_taken zero ws = refl
+lines_taken (suc n) ws =
+    let e : 3 * suc n ≡ 3 + 3 * n = omega arith in
+    rw (e, take-take 3 (3 + 3 * n) ws (omega arith), drop-take, lines_taken n (drop 3 ws))
 
-pub lines_step : (n i : ℕ) (ws : List ℤ) → i < n
-    → node_lines (n - i) (drop (3 * i) ws) ≡ line_text (take (3 * i + 3 - 3 * i) (drop (3 * i) ws)) ++ node_lines (n - (i + 1)) (drop (3 * (i + 1)) ws)
+pub lines_none : (n : ℕ) (ws : List ℤ) → n ≡ 0 → node_lines n ws ≡ []
 unfolding node_lines
-lines_step n i ws h =
-    let e : n - i ≡ suc (n - (i + 1)) = omega arith in
-    let three : 3 * i + 3 - 3 * i ≡ 3 = omega arith in
-    let next : 3 * i + 3 ≡ 3 * (i + 1) = omega arith in
-    rw (e, three, drop-drop 3 (3 * i) ws, next)
+lines_none zero ws h = refl
+lines_none (suc n) ws h = absurd (omega arith)
+
+-- the first of n nodes, and the others
+pub lines_step : (n : ℕ) (us vs : List ℤ) {ws : List ℤ} → ws ≡ us ++ vs → length us ≡ 3 → 0 < n → node_lines n ws ≡ line_text us ++ node_lines (n - 1) vs
+unfolding node_lines
+lines_step zero us vs e h some = absurd (omega arith)
+lines_step (suc n) us vs e h some =
+    let less : suc n - 1 ≡ n = omega arith in
+    rw (e, take_at us vs 3 h, drop_at us vs 3 h, less)
 
 -- three words a node
 lines_nodes : (ns : List Node) (ws : List ℤ) → node_lines (length ns) (nodes_words ns ++ ws) ≡ nodes_text ns

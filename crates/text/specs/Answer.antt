@@ -1,10 +1,8 @@
 -- What the programs print for their texts, byte for byte (01, refusal 0 and "Small claims with known outcomes"): the emitted table, an outcome,
 -- or a refusal, each line ending in LF. Assumes nothing.
-use Rattle.std.specs.Prelude.{◌≡◌, cond, List, [], ◌∷◌, ◌++◌, map, ℕ, leb, ℤ, length, drop, Result, Ok, Err}
+use Rattle.std.specs.Prelude.{◌≡◌, cond, List, [], ◌∷◌, ◌++◌, map, ℕ, leb, ℤ, length, drop, Option, Some, None, Result, Ok, Err}
 use Rattle.checker.specs.declared.refusals.Refusal.TheVariants as refused
 use Rattle.checker.specs.Refusals.{number_of, place_of}
-use Rattle.decimal.specs.declared.Number.{Number}
-use Rattle.decimal.specs.declared.Number.TheVariants.{Value, NoNumber}
 use Rattle.decimal.specs.Reading.{Reading, stopped, read_text, number_in}
 use Rattle.decimal.specs.Printing.{bytes, line_feed, decimal, line_text}
 use Rattle.checker.specs.declared.refusals.Refusal.{Refusal}
@@ -92,10 +90,10 @@ reduce_text input = answered reduce_words (input_words input)
 unfoldable pub decide_words : ℕ → ℕ → List ℤ → List ℕ
 decide_words size allowance ws = decision_text (decision_of ws size allowance)
 
-unfoldable pub decide_numbers : Number → Number → Reading → List ℕ
-decide_numbers (Value size) (Value allowance) r = answered (decide_words size allowance) r
-decide_numbers (Value size) NoNumber r = unread
-decide_numbers NoNumber allowance r = unread
+unfoldable pub decide_numbers : Option ℕ → Option ℕ → Reading → List ℕ
+decide_numbers (Some size) (Some allowance) r = answered (decide_words size allowance) r
+decide_numbers (Some size) None r = unread
+decide_numbers None allowance r = unread
 
 -- What `decide` prints for its two arguments and an input text.
 unfoldable pub decide_text : List ℕ → List ℕ → List ℕ → List ℕ

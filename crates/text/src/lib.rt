@@ -7,7 +7,6 @@ ghost use Rattle.decimal.specs.Reading.{scanned_of, onto};
 ghost use Rattle.text.specs.Answer.{input_words, answered, reduce_words, reduce_text, decide_words, decide_text, Printed};
 
 use decider::Decision;
-use decimal::{Number, Scanned};
 
 mod lines; // the lines of a table, an outcome and a refusal
 
@@ -15,17 +14,17 @@ pub use lines::{put_refusal, put_unread};
 
 const MAX_BYTES: usize = 65535;
 
-const LARGEST_SIZE: u64 = 4294967295;
+const LARGEST_SIZE: u64 = u32::MAX as u64;
 
-const LARGEST_ALLOWANCE: u64 = 18446744073709551615;
+const LARGEST_ALLOWANCE: u64 = u64::MAX;
 
-// The words of an input text.
-pub fn read_input(input: &[u8], words: &mut [i32; 4096]) -> Scanned
+// The words of an input text, put into `words`, and how many they are; `None` if the text is too long or holds something else.
+pub fn read_input(input: &[u8], words: &mut [i32; 4096]) -> Option<usize>
     ensures value { result ≡ scanned_of (input_words input.now) }
     ensures words_after { words.new ≡ onto words.old (input_words input.now) }
 {
     if MAX_BYTES < input.len() {
-        return Scanned::NoWords;
+        return None;
     }
     decimal::read_words(input, words)
 }
@@ -40,11 +39,12 @@ fn reduce_words(words: &[i32], out: &mut [u8; 196608]) -> usize
     }
 }
 
+#[tactic(auto, using(crate::proofs::Answers::readings), unfolding(crate::specs::Answer::reduce_text))]
 pub fn answer_reduce(input: &[u8], out: &mut [u8; 196608]) -> usize
     ensures { Printed out.old (reduce_text input.now) out.new result }
 {
     let mut words = [0i32; 4096];
-    let Scanned::Words(count) = read_input(input, &mut words) else {
+    let Some(count) = read_input(input, &mut words) else {
         return lines::put_unread(out);
     };
     reduce_words(&words[..count], out)
@@ -61,23 +61,25 @@ fn decide_words(words: &[i32], size: u32, allowance: u64, out: &mut [u8; 64]) ->
     }
 }
 
+#[tactic(auto, using(crate::proofs::Answers::readings))]
 fn decide_input(input: &[u8], size: u32, allowance: u64, out: &mut [u8; 64]) -> usize
     ensures { Printed out.old (answered (decide_words size allowance) (input_words input.now)) out.new result }
 {
     let mut words = [0i32; 4096];
-    let Scanned::Words(count) = read_input(input, &mut words) else {
+    let Some(count) = read_input(input, &mut words) else {
         return lines::put_unread(out);
     };
     decide_words(&words[..count], size, allowance, out)
 }
 
+#[tactic(auto, using(decimal::proofs::Numbers::number_within), unfolding(crate::specs::Answer::decide_text, crate::specs::Answer::decide_numbers))]
 pub fn answer_decide(size: &[u8], allowance: &[u8], input: &[u8], out: &mut [u8; 64]) -> usize
     ensures { Printed out.old (decide_text size.now allowance.now input.now) out.new result }
 {
-    let Number::Value(n) = decimal::read_number(size, LARGEST_SIZE) else {
-        return lines::put_unread(out);
-    };
-    let Number::Value(steps) = decimal::read_number(allowance, LARGEST_ALLOWANCE) else {
+    let (Some(n), Some(steps)) = (
+        decimal::read_number(size, LARGEST_SIZE),
+        decimal::read_number(allowance, LARGEST_ALLOWANCE),
+    ) else {
         return lines::put_unread(out);
     };
     decide_input(input, n as u32, steps, out)

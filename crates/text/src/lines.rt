@@ -13,7 +13,7 @@ fn put_mark(out: &mut [u8], at: usize, s: &[u8], n: u64) -> usize
     ensures wrote { Wrote out.old at (mark s.now n) out.new result }
     ensures upper_bound { result ≤ at + length s.now + 20 }
 {
-    let number = decimal::put_bytes(out, at, s);
+    let number = lent::put_all(out, at, s);
     decimal::put_decimal(out, number, n)
 }
 
@@ -23,10 +23,11 @@ pub fn put_refusal(out: &mut [u8], refusal: Refusal) -> usize
 {
     let place = put_mark(out, 0, b"refused ", refusal.number() as u64);
     let end = put_mark(out, place, b" ", refusal.place() as u64);
-    decimal::put_byte(out, end, b'\n')
+    lent::put(out, end, b'\n')
 }
 
 // Refusal 0.
+#[tactic(auto, unfolding(crate::specs::Answer::unread))]
 pub fn put_unread(out: &mut [u8]) -> usize
     requires { 50 ≤ length out.old }
     ensures { Printed out.old unread out.new result }
@@ -40,7 +41,7 @@ pub fn put_steps(out: &mut [u8], s: &[u8], n: u64) -> usize
     ensures { Printed out.old (steps_text s.now n) out.new result }
 {
     let end = put_mark(out, 0, s, n);
-    decimal::put_byte(out, end, b'\n')
+    lent::put(out, end, b'\n')
 }
 
 fn put_nodes(out: &mut [u8], words: &[i32], nodes: usize) -> usize
@@ -50,10 +51,8 @@ fn put_nodes(out: &mut [u8], words: &[i32], nodes: usize) -> usize
     ensures upper_bound { result ≤ 36 * nodes }
 {
     let mut here = 0;
-    let mut i = 0;
-    while i < nodes {
-        here = decimal::put_line(out, here, &words[3 * i..3 * i + 3]);
-        i += 1;
+    for node in words[..3 * nodes].chunks(3) {
+        here = decimal::put_line(out, here, node);
     }
     here
 }

@@ -1,43 +1,32 @@
--- `decimal::print::put_word` meets its contract. Assumes nothing.
-use mathlib.Core.Path.{◌≡◌, ap}
-use native.Mathlib.Omega.{arith}
-use lib.IntN.{nat_abs}
-use lib.ListN.{length}
+-- `decimal::print::put_word` meets its contract: a sign or none, and then the digits. Assumes nothing.
+use Rattle.std.proofs.Common.{◌≡◌, nat_abs, arith}
 use mir.Facts.{to_z-of_z}
-use Rattle.decimal.specs.Printing.{decimal}
-use Rattle.lent.proofs.Writing.{wrote_then, wrote_long}
+use Rattle.lent.proofs.Writing.{wrote_then}
 use Rattle.decimal.proofs.Lines.{negative_text, positive_text, word_digits}
 use Rattle.decimal.proofs.print.put_word.Goals as goal
+use Rattle.decimal.proofs.print.put_word.Goals.{then-w-lt0, else-w-lt0}
 
 pub put_decimal-requires : goal.put_decimal-requires
 put_decimal-requires c =
-    let n : c.magnitude-n.result ≡ nat_abs c.args.w = rw (to_z-of_z c.ranges.w) at c.magnitude-n.ensures in
-    let put = c.put_byte-digits.ensures in
-    record { fits = rw n (omega (arith, c.requires, word_digits c.args.w c.ranges.w, put.after, wrote_long put)) }
-
-pub returns-then-w-lt0 : goal.returns-then-w-lt0
-returns-then-w-lt0 c =
-    let f = c.ranges.w in
-    let n : c.magnitude-n.result ≡ nat_abs c.args.w = rw (to_z-of_z f) at c.magnitude-n.ensures in
-    let t = negative_text c.args.w (rw (to_z-of_z f) at c.if-w-lt0.true) in
-    let put = wrote_then c.put_byte-digits.ensures c.put_decimal.ensures in
+    let n : c.magnitude.result ≡ nat_abs c.args.w = rw (to_z-of_z c.ranges.w) at c.magnitude.ensures in
+    let few = word_digits c.args.w c.ranges.w in
     record {
-      wrote = rw (t, ← n) put;
-      upper_bound = omega (arith, put.after, ap (λ m. length (decimal m)) n, word_digits c.args.w f);
+      fits = rw n (elim c.if-w-lt0.branch [ then-w-lt0 w ↦ omega (arith, c.requires, w.put-digits.ensures.after) | else-w-lt0 w ↦ omega (arith, c.requires) ]);
     }
-
-pub put_decimal-requires-2 : goal.put_decimal-requires-2
-put_decimal-requires-2 c =
-    let n : c.magnitude-n.result ≡ nat_abs c.args.w = rw (to_z-of_z c.ranges.w) at c.magnitude-n.ensures in
-    record { fits = rw n (omega (arith, c.requires, word_digits c.args.w c.ranges.w)) }
 
 pub returns : goal.returns
 returns c =
     let f = c.ranges.w in
-    let n : c.magnitude-n.result ≡ nat_abs c.args.w = rw (to_z-of_z f) at c.magnitude-n.ensures in
-    let t = positive_text c.args.w (rw (to_z-of_z f) at c.if-w-lt0.false) in
-    let put = c.put_decimal-2.ensures in
-    record {
-      wrote = rw (t, ← n) put;
-      upper_bound = omega (arith, put.after, ap (λ m. length (decimal m)) n, word_digits c.args.w f);
-    }
+    let n : c.magnitude.result ≡ nat_abs c.args.w = rw (to_z-of_z f) at c.magnitude.ensures in
+    let few = word_digits c.args.w f in
+    let put = rw n at c.put_decimal.ensures in
+    elim c.if-w-lt0.branch [
+      | then-w-lt0 w ↦ record {
+        wrote = rw (negative_text c.args.w (rw (to_z-of_z f) at w.if-w-lt0.true)) (wrote_then w.put-digits.ensures (rw (w.out-is, w.digits-is) at put));
+        upper_bound = omega (arith, put.after, w.put-digits.ensures.after);
+      }
+      | else-w-lt0 w ↦ record {
+        wrote = rw (positive_text c.args.w (rw (to_z-of_z f) at w.if-w-lt0.false)) (rw (w.out-is, w.digits-is) at put);
+        upper_bound = omega (arith, put.after);
+      }
+    ]

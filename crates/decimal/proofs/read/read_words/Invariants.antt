@@ -1,11 +1,9 @@
--- `decimal::read::read_words` meets its contract: what is left of the text decides. Assumes nothing.
-use Prim.Native.Nat.{◌-◌}
-use lib.ListN.{length}
+-- `decimal::read::read_words` meets its contract: the pieces that are left decide. Assumes nothing.
+use Rattle.std.proofs.Common.{ℕ, List}
+use Rattle.std.proofs.lemmas.Iterator.{YieldsList}
 use Rattle.decimal.proofs.Readings.{Left}
 use Rattle.decimal.proofs.read.read_words.Given as goal
 
-abbrev pub invariant-loop-at : goal.invariant-loop-at
-invariant-loop-at l = Left l.text l.initial.out l.out l.count l.at
-
-abbrev pub decreases-loop-at : goal.decreases-loop-at
-decreases-loop-at l = length l.text - l.at
+abbrev pub invariant-loop-piece : goal.invariant-loop-piece
+invariant-loop-piece l =
+    (ps : List (List ℕ)) × YieldsList (goal.iterator-loop-piece).next_gives (λ p. p.now) l.piece-iterator ps × Left l.text l.initial.out l.out l.count ps

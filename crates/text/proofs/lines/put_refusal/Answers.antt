@@ -11,5 +11,5 @@ unfolding refusal_text
 returns c =
     let number = c.put_mark-place.ensures in
     let place = c.put_mark-end.ensures in
-    let end = c.put_byte.ensures in
+    let end = c.put.ensures in
     rw (sym c.number.ensures, sym c.place.ensures) (printed (wrote_then number.wrote (wrote_then place.wrote end)) (omega (arith, number.upper_bound, place.upper_bound, end.after, c.requires)))

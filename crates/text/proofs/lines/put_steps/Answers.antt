@@ -9,5 +9,5 @@ pub returns : goal.returns
 unfolding steps_text
 returns c =
     let mark = c.put_mark-end.ensures in
-    let end = c.put_byte.ensures in
+    let end = c.put.ensures in
     printed (wrote_then mark.wrote end) (omega (arith, mark.upper_bound, end.after, c.requires))

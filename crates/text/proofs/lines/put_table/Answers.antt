@@ -3,7 +3,7 @@ use Prim.Native.Nat.{◌*◌, ◌-◌}
 use native.Mathlib.Omega.{arith}
 use lib.ListN.{length}
 use Rattle.lent.proofs.Writing.{wrote_then, wrote_long}
-use Rattle.decimal.proofs.Parts.{all_after}
+use Rattle.std.proofs.lemmas.List.{take_rest}
 use Rattle.text.proofs.Printing.{printed}
 use Rattle.text.proofs.Tables.{part_length, table_long, table_whole}
 use Rattle.text.proofs.lines.put_table.Goals as goal
@@ -72,4 +72,4 @@ returns c =
     let middle = part_length ws (3 * c.word-nodes.result) (length ws - 4) (omega arith) in
     let last = part_length ws (length ws - 4) (length ws) (omega arith) in
     let put = wrote_then nodes.wrote (wrote_then quantifiers.wrote trailer.wrote) in
-    printed (rw (← table_whole ws is, ← n, ← all_after ws (length ws - 4)) put) (omega (arith, nodes.upper_bound, quantifiers.upper_bound, trailer.upper_bound, c.requires.words_in_bounds))
+    printed (rw (← table_whole ws is, ← n, ← take_rest ws (length ws - 4)) put) (omega (arith, nodes.upper_bound, quantifiers.upper_bound, trailer.upper_bound, c.requires.words_in_bounds))
