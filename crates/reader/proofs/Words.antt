@@ -2,34 +2,42 @@
 use mathlib.Core.Path.{◌≡◌, refl}
 use mathlib.Core.Bool.{Bool, true, false, cond, ◌&&◌, and-eq-true_iff}
 use mathlib.Core.List.{List, [], ◌∷◌, ◌++◌, map}
-use Prim.Native.Nat.{ℕ, zero, suc, ◌≤◌, ◌<◌}
+use Prim.Native.Nat.{◌≤◌}
 use native.Mathlib.Omega.{arith}
-use borrow.Author.Tests.{leb-true, le-leb, lt-leb}
-use lib.IntN.{ℤ, pos, negsuc, neg_ℤ, nat_abs}
+use borrow.Author.Tests.{leb-true, le-leb}
+use lib.IntN.{ℤ, pos, negsuc, nat_abs}
+use mir.Syntax.{w32}
+use mir.Val.{SFits}
+use Rattle.std.specs.Prelude.{Result, Ok, Err}
+use Rattle.std.specs.Result.{OkIff, result_unwrap_or}
 use Rattle.checker.specs.Claim.{Node}
 use Rattle.checker.specs.Words.{fields_of, node_words, nodes_words}
-use Rattle.decimal.specs.Reading.{most_negative, most_positive}
+use Rattle.decimal.specs.Reading.{most_positive}
 use Rattle.sentence.specs.Reading.{AllWithin}
-use Rattle.scanner.specs.Places.{most}
+use Rattle.scanner.specs.Finds.{most}
 use Rattle.reader.specs.Held.{in_word, in_words, held}
 
-pub held_negative : (n : ℕ) → n ≤ most_negative → held (neg_ℤ (pos n)) ≡ neg_ℤ (pos n)
-unfolding held in_word
-held_negative zero h = refl
-held_negative (suc n) h = rw (le-leb n most_positive (omega arith))
+-- ---- one number
 
-pub held_under : (n : ℕ) → most_negative < n → held (neg_ℤ (pos n)) ≡ pos 0
-unfolding held in_word
-held_under zero h = refl
-held_under (suc n) h = rw (lt-leb n most_positive (omega arith))
+fits_in : (z : ℤ) → SFits w32 z → in_word z ≡ true
+unfolding in_word
+fits_in (pos n) f = le-leb n most_positive (omega (arith, f.sfits))
+fits_in (negsuc n) f = le-leb n most_positive (omega (arith, f.sfits))
 
-pub held_positive : (n : ℕ) → n ≤ most_positive → held (pos n) ≡ pos n
-unfolding held in_word
-held_positive n h = rw (le-leb n most_positive h)
+in_fits : (z : ℤ) → in_word z ≡ true → SFits w32 z
+unfolding in_word
+in_fits (pos n) e = record { sfits = omega (arith, leb-true n most_positive e) }
+in_fits (negsuc n) e = record { sfits = omega (arith, leb-true n most_positive e) }
 
-pub held_over : (n : ℕ) → most_positive < n → held (pos n) ≡ pos 0
-unfolding held in_word
-held_over n h = rw (lt-leb n most_positive h)
+-- what a conversion into a word gives, or else 0
+pub held_or_0 : {E : Type 0} (r : Result ℤ E) (z : ℤ) → OkIff r (SFits w32 z) z → result_unwrap_or r (pos 0) ≡ held z
+unfolding held
+held_or_0 (Ok x) z (f, e) = rw (fits_in z f) e
+held_or_0 (Err e) z n = rw (not_true (in_word z) (λ i. n (in_fits z i)))
+  where
+    not_true : (t : Bool) → (t ≡ true → ⊥) → t ≡ false
+    not_true true n = absurd (n refl)
+    not_true false n = refl
 
 -- ---- lists
 

@@ -1,14 +1,13 @@
--- What is put into words while a text is scanned: a run of nodes or of quantifiers, how many they are, and where the text goes on.
+-- What is put into words while a text is scanned: a run of nodes or of quantifiers, how many they are, and how the text goes on.
 -- Assumes nothing.
-use Rattle.std.specs.Prelude.{◌≡◌, List, [], ◌∷◌, map, ℕ, ◌+◌, ◌*◌, ℤ, pos, length}
+use Rattle.std.specs.Prelude.{List, map, ℕ, ◌+◌, ◌*◌, ℤ, length}
 use Rattle.checker.specs.declared.Dialect.TheVariants.{Emitted}
-use Rattle.checker.specs.Words.{mark}
 use Rattle.checker.specs.Dialect.{most_nodes, most_quantifiers}
 use Rattle.lent.specs.Write.{Wrote}
-use Rattle.sentence.specs.Scan.{Found, Limits}
-use Rattle.scanner.specs.declared.Line.{Line}
-use Rattle.scanner.specs.Places.{most, At, signed}
-use Rattle.reader.specs.declared.table.Run.{Run}
+use Rattle.sentence.specs.Scan.{Limits}
+use Rattle.sentence.specs.Scan as scan
+use Rattle.scanner.specs.declared.Found.{Found}
+use Rattle.scanner.specs.Finds.{most, Finds}
 use Rattle.reader.specs.Held.{held}
 
 -- The nodes and quantifiers of the largest claim that the writer takes.
@@ -19,16 +18,7 @@ limits = record { nodes = most_nodes Emitted; quantifiers = most_quantifiers Emi
 abbrev pub most_words : ℕ
 most_words = 3 * most_nodes Emitted + most_quantifiers Emitted + 4
 
--- the words of a line's node
-abbrev pub line_words : Line → List ℤ
-line_words n = held (pos n.kind) ∷ held (signed n.minus n.a) ∷ held (pos n.b) ∷ []
-
--- the last four words
-abbrev pub trailer_words : ℕ → ℕ → ℕ → List ℤ
-trailer_words root nodes quantifiers = held (pos root) ∷ held (pos nodes) ∷ held (pos quantifiers) ∷ held (pos mark) ∷ []
-
--- From the list l to l' the words of what was found, `width` for each thing, are put from a place on.
-pub record RunPut {A : Type 0} (words_of : List A → List ℤ) (width : ℕ) (text : List ℕ) (f : Found (List A)) (l : List ℤ) (from : ℕ) (l' : List ℤ) (r : Run) : Type 0 where
-  pub count : length f.value ≡ r.count
-  pub ends : At text f.rest r.next
-  pub words : Wrote l from (map held (words_of f.value)) l' (from + width * r.count)
+-- So many things were found, and from the list l to l' their words are put, `width` for each, from a place on.
+pub record RunPut {A : Type 0} (words_of : List A → List ℤ) (width : ℕ) (f : scan.Found (List A)) (l : List ℤ) (from : ℕ) (l' : List ℤ) (r : Found ℕ) : Type 0 where
+  pub found : Finds length f r
+  pub words : Wrote l from (map held (words_of f.value)) l' (from + width * r.value)

@@ -1,2 +1,2 @@
 -- What the scanner's functions answer, in numbers.
-pub mod Places
+pub mod Finds

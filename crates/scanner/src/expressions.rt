@@ -1,187 +1,125 @@
-// What a let binds: the expression of a node. `opens` is the number of bytes before its first number.
-ghost use Rattle.std.specs.Prelude.{ℕ, ◌≤◌, pos, length, drop};
-ghost use Rattle.checker.specs.Claim.{Node, divided};
-ghost use Rattle.sentence.specs.Scan.{minus_from, times_from, equal_from, and_from, bracket_from, expr_from};
-ghost use Rattle.scanner.specs.Places.{most, signed, LineAt, TwoFields, OneField, two_at, one_at};
+// What a let binds: the expression of a node.
 
-use crate::Line;
-use crate::places::{byte_at, byte_is, numeral_at, pair_at, past};
+#![tactic(auto, unfolding(sentence::specs::Scan::one_from, sentence::specs::Scan::two_from, sentence::specs::Scan::minus_from, sentence::specs::Scan::times_from, sentence::specs::Scan::equal_from, sentence::specs::Scan::and_from, sentence::specs::Scan::bracket_from, sentence::specs::Scan::expr_from))]
+
+ghost use Rattle.std.specs.Prelude.{◌≡◌};
+ghost use Rattle.sentence.specs.Scan.{minus_from, times_from, equal_from, and_from, bracket_from, expr_from};
+ghost use Rattle.scanner.specs.Finds.{most, Finds, fields_in, nodes_fields, pair_from};
+
+use crate::numbers::{byte_at, byte_is, number, pair, past};
+use crate::{Fields, Found};
 
 // The kinds of 01 that a text has.
-const NUMBER_VARIABLE: usize = 10;
+const NUMBER_VARIABLE: i64 = 10;
 
-const CONSTANT: usize = 11;
+const CONSTANT: i64 = 11;
 
-const SIZE: usize = 12;
+const SIZE: i64 = 12;
 
-const SUM: usize = 13;
+const SUM: i64 = 13;
 
-const DIFFERENCE: usize = 14;
+const DIFFERENCE: i64 = 14;
 
-const MULTIPLE: usize = 15;
+const MULTIPLE: i64 = 15;
 
-const EQUAL: usize = 20;
+const EQUAL: i64 = 20;
 
-const LESS: usize = 21;
+const LESS: i64 = 21;
 
-const DIVIDES: usize = 22;
+const DIVIDES: i64 = 22;
 
-const AND: usize = 25;
+const AND: i64 = 25;
 
-const OR: usize = 26;
+const OR: i64 = 26;
 
-const NOT: usize = 27;
+const NOT: i64 = 27;
 
-// A node of two numbers, a and b, behind which one bracket closes.
-fn two_fields(
-    text: &[u8],
-    at: usize,
-    opens: usize,
-    between: usize,
-    kind: usize,
-    minus: bool,
-) -> Line
-    requires { at ≤ length text.now }
-    ensures { (f : ℕ → ℕ → Node) → TwoFields kind minus f → LineAt text.now (two_at f between 1 (drop opens (drop at text.now))) result }
+fn fields(kind: i64, a: i64, b: i64) -> Fields
+    ensures { result ≡ record { kind = kind; a = a; b = b } }
 {
-    let p = pair_at(text, past(text, at, opens), between, 1);
-    Line {
-        kind,
-        minus,
-        a: p.first,
-        b: p.second,
-        next: p.next,
-    }
+    Fields { kind, a, b }
 }
 
-// "C divides T", where T's number stands before C's.
-fn divided_by(text: &[u8], at: usize, opens: usize, after: usize, minus: bool) -> Line
-    requires { at ≤ length text.now }
-    ensures { LineAt text.now (two_at (λ b c. divided (signed minus c) b) 1 after (drop opens (drop at text.now))) result }
+// Two nodes of this kind's operator, from the first one's number on.
+fn two_nodes(text: &[u8], kind: i64) -> Found<'_, Fields>
+    ensures { Finds (nodes_fields kind) (pair_from 2 1 text.now) result }
 {
-    let p = pair_at(text, past(text, at, opens), 1, after);
-    Line {
-        kind: DIVIDES,
-        minus,
-        a: p.second,
-        b: p.first,
-        next: p.next,
-    }
-}
-
-// "0 divides T".
-fn divided_by_0(text: &[u8], at: usize, opens: usize, after: usize) -> Line
-    requires { at ≤ length text.now }
-    ensures { LineAt text.now (one_at (divided (pos 0)) after (drop opens (drop at text.now))) result }
-{
-    let n = numeral_at(text, past(text, at, opens));
-    Line {
-        kind: DIVIDES,
-        minus: false,
-        a: 0,
-        b: n.value,
-        next: past(text, n.next, after),
-    }
-}
-
-// A node of one number, a.
-fn one_field(text: &[u8], at: usize, opens: usize, after: usize, kind: usize, minus: bool) -> Line
-    requires { at ≤ length text.now }
-    ensures { (f : ℕ → Node) → OneField kind minus f → LineAt text.now (one_at f after (drop opens (drop at text.now))) result }
-{
-    let n = numeral_at(text, past(text, at, opens));
-    Line {
-        kind,
-        minus,
-        a: n.value,
-        b: 0,
-        next: past(text, n.next, after),
-    }
+    pair(text, 2, 1).map(|(a, b)| fields(kind, a, b))
 }
 
 // (- n3 n4) or (- 5)
-fn minus(text: &[u8], at: usize) -> Line
-    requires { at ≤ length text.now }
-    ensures { LineAt text.now (minus_from most (drop at text.now)) result }
+fn minus(text: &[u8]) -> Found<'_, Fields>
+    ensures { Finds fields_in (minus_from most text.now) result }
 {
-    if byte_is(text, at, 3, b'n') {
-        return two_fields(text, at, 4, 2, DIFFERENCE, false);
+    if byte_is(text, 3, b'n') {
+        return two_nodes(past(text, 4), DIFFERENCE);
     }
-    one_field(text, at, 3, 1, CONSTANT, true)
+    number(past(text, 3))
+        .past(1)
+        .map(|c| fields(CONSTANT, -c, 0))
 }
 
 // (* (- 5) n3) or (* 5 n3)
-fn times(text: &[u8], at: usize) -> Line
-    requires { at ≤ length text.now }
-    ensures { LineAt text.now (times_from most (drop at text.now)) result }
+fn times(text: &[u8]) -> Found<'_, Fields>
+    ensures { Finds fields_in (times_from most text.now) result }
 {
-    if byte_is(text, at, 3, b'(') {
-        return two_fields(text, at, 6, 3, MULTIPLE, true);
+    if byte_is(text, 3, b'(') {
+        return pair(past(text, 6), 3, 1).map(|(c, b)| fields(MULTIPLE, -c, b));
     }
-    two_fields(text, at, 3, 2, MULTIPLE, false)
+    two_nodes(past(text, 3), MULTIPLE)
 }
 
 // (= n3 n4), (= 0 (mod n3 5)) or (= (mod n3 5) 0)
-fn equal(text: &[u8], at: usize) -> Line
-    requires { at ≤ length text.now }
-    ensures { LineAt text.now (equal_from most (drop at text.now)) result }
+fn equal(text: &[u8]) -> Found<'_, Fields>
+    ensures { Finds fields_in (equal_from most text.now) result }
 {
-    if byte_is(text, at, 3, b'n') {
-        return two_fields(text, at, 4, 2, EQUAL, false);
+    if byte_is(text, 3, b'n') {
+        return two_nodes(past(text, 4), EQUAL);
     }
-    if byte_is(text, at, 3, b'0') {
-        return divided_by(text, at, 11, 2, true);
+    if byte_is(text, 3, b'0') {
+        return pair(past(text, 11), 1, 2).map(|(b, c)| fields(DIVIDES, -c, b));
     }
-    divided_by(text, at, 9, 4, false)
+    pair(past(text, 9), 1, 4).map(|(b, c)| fields(DIVIDES, c, b))
 }
 
 // (and n3 n4) or (and false (= n3 0))
-fn and(text: &[u8], at: usize) -> Line
-    requires { at ≤ length text.now }
-    ensures { LineAt text.now (and_from most (drop at text.now)) result }
+fn and(text: &[u8]) -> Found<'_, Fields>
+    ensures { Finds fields_in (and_from most text.now) result }
 {
-    if byte_is(text, at, 5, b'n') {
-        return two_fields(text, at, 6, 2, AND, false);
+    if byte_is(text, 5, b'n') {
+        return two_nodes(past(text, 6), AND);
     }
-    divided_by_0(text, at, 15, 4)
+    number(past(text, 15))
+        .past(4)
+        .map(|b| fields(DIVIDES, 0, b))
 }
 
 // What opens by a bracket: the operator tells which.
-fn bracket(text: &[u8], at: usize) -> Line
-    requires { at ≤ length text.now }
-    ensures { LineAt text.now (bracket_from most (drop at text.now)) result }
+fn bracket(text: &[u8]) -> Found<'_, Fields>
+    ensures { Finds fields_in (bracket_from most text.now) result }
 {
-    let operator = byte_at(text, at, 1);
-    match operator {
-        b'+' => two_fields(text, at, 4, 2, SUM, false),
-        b'-' => minus(text, at),
-        b'*' => times(text, at),
-        b'=' => equal(text, at),
-        b'<' => two_fields(text, at, 4, 2, LESS, false),
-        b'a' => and(text, at),
-        b'o' => two_fields(text, at, 5, 2, OR, false),
-        _ => one_field(text, at, 6, 1, NOT, false),
+    match byte_at(text, 1) {
+        b'+' => two_nodes(past(text, 4), SUM),
+        b'-' => minus(text),
+        b'*' => times(text),
+        b'=' => equal(text),
+        b'<' => two_nodes(past(text, 4), LESS),
+        b'a' => and(text),
+        b'o' => two_nodes(past(text, 5), OR),
+        _ => number(past(text, 6)).past(1).map(|a| fields(NOT, a, 0)),
     }
 }
 
-pub fn expression(text: &[u8], at: usize) -> Line
-    requires { at ≤ length text.now }
-    ensures { LineAt text.now (expr_from most (drop at text.now)) result }
+pub fn expression(text: &[u8]) -> Found<'_, Fields>
+    ensures { Finds fields_in (expr_from most text.now) result }
 {
-    if byte_is(text, at, 0, b'(') {
-        return bracket(text, at);
+    match byte_at(text, 0) {
+        b'(' => bracket(text),
+        b'q' => number(past(text, 1)).map(|a| fields(NUMBER_VARIABLE, a, 0)),
+        b'M' => Found {
+            value: fields(SIZE, 0, 0),
+            rest: past(text, 4),
+        },
+        _ => number(text).map(|a| fields(CONSTANT, a, 0)),
     }
-    if byte_is(text, at, 0, b'q') {
-        return one_field(text, at, 1, 0, NUMBER_VARIABLE, false);
-    }
-    if byte_is(text, at, 0, b'M') {
-        return Line {
-            kind: SIZE,
-            minus: false,
-            a: 0,
-            b: 0,
-            next: past(text, at, 4),
-        };
-    }
-    one_field(text, at, 0, 0, CONSTANT, false)
 }

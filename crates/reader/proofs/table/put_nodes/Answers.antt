@@ -1,42 +1,30 @@
 -- `reader::table::put_nodes` meets its contract: what is left of the text decides. Assumes nothing.
-use mathlib.Core.Path.{sym, ◌∙◌}
-use native.Mathlib.Omega.{arith}
-use Rattle.reader.proofs.Lefts.{nodes_start, nodes_stop, nodes_end, nodes_step}
+use Rattle.std.proofs.Common.{refl, sym, ◌∙◌, arith, rules}
+use Rattle.std.proofs.lemmas.Int.{to_z-of_z}
+use mir.Syntax.{w64}
+use mir.Val.{SFits}
+use Rattle.checker.specs.Words.{nodes_words, node_words}
+use Rattle.reader.specs.Runs.{limits}
+use Rattle.reader.proofs.Lefts.{left_start, left_step, left_over, left_full, nodes_run, node_put, no_nodes}
 use Rattle.reader.proofs.table.put_nodes.Goals as goal
 
 pub loop-i-init : goal.loop-i-init
-loop-i-init c =
-    nodes_start _ _ _ _ c.requires.at_in_bounds
-
-pub byte_is-requires : goal.byte_is-requires
-byte_is-requires c =
-    c.loop-i.invariant.inside
-
-pub shape_of-words-then-not-byte_is : goal.shape_of-words-then-not-byte_is
-shape_of-words-then-not-byte_is c =
-    c.loop-i.invariant.left.words.long
-
-pub returns-then-not-byte_is : goal.returns-then-not-byte_is
-returns-then-not-byte_is c =
-    nodes_stop _ _ _ _ _ _ _ c.loop-i.invariant (sym c.byte_is.ensures ∙ c.if-not-byte_is.true)
-
-pub line_at-node-requires : goal.line_at-node-requires
-line_at-node-requires c =
-    c.loop-i.invariant.inside
-
-pub put_node-requires : goal.put_node-requires
-put_node-requires c =
-    record { fits = omega (arith, c.requires.nodes_in_bounds, c.loop-i.invariant.left.words.long) }
+loop-i-init c = left_start nodes_words 3
 
 pub loop-i-preserved : goal.loop-i-preserved
+unfolding node_words
 loop-i-preserved c =
-    nodes_step _ _ _ _ _ _ _ c.loop-i.invariant c.loop-i-test.true
-    (sym c.byte_is.ensures ∙ c.if-not-byte_is.false) c.line_at-node.ensures c.put_node.ensures
+    let node = c.node-node.result.value in
+    let kind : SFits w64 node.kind = search rules in
+    let a : SFits w64 node.a = search rules in
+    let b : SFits w64 node.b = search rules in
+    left_step nodes_words 3 nodes_run limits.nodes c.loop-i.invariant c.loop-i-test.true (sym c.byte_is.ensures ∙ c.if-not-byte_is.false)
+    (λ xs. node_put _ xs ∙ rw c.node-node.ensures.value) refl (omega arith) (simp to_z-of_z at c.put_held.ensures) c.node-node.ensures.rest
 
-pub shape_of-words : goal.shape_of-words
-shape_of-words c =
-    c.loop-i.invariant.left.words.long
+pub returns-then-not-byte_is-clause-put : goal.returns-then-not-byte_is-clause-put
+returns-then-not-byte_is-clause-put c =
+    left_over nodes_words 3 nodes_run limits.nodes c.loop-i.invariant no_nodes _ refl refl (sym c.byte_is.ensures ∙ c.if-not-byte_is.true)
 
-pub returns : goal.returns
-returns c =
-    nodes_end _ _ _ _ _ _ _ c.loop-i.invariant c.loop-i-test.false
+pub returns-clause-put : goal.returns-clause-put
+returns-clause-put c =
+    left_full nodes_words 3 nodes_run limits.nodes c.loop-i.invariant no_nodes _ (omega arith) refl c.loop-i-test.false

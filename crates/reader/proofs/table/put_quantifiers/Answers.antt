@@ -1,42 +1,26 @@
 -- `reader::table::put_quantifiers` meets its contract: what is left of the text decides. Assumes nothing.
-use mathlib.Core.Path.{sym, ◌∙◌}
-use native.Mathlib.Omega.{arith}
-use Rattle.reader.proofs.Lefts.{quantifiers_start, quantifiers_stop, quantifiers_end, quantifiers_step}
+use Rattle.std.proofs.Common.{refl, sym, ◌∙◌, map, arith, rules}
+use Rattle.std.proofs.lemmas.Int.{to_z-of_z}
+use mir.Syntax.{w64}
+use mir.Val.{SFits}
+use Rattle.checker.specs.Words.{quantifier_word}
+use Rattle.reader.specs.Runs.{limits}
+use Rattle.reader.proofs.Lefts.{left_start, left_step, left_over, left_full, quantifiers_run}
 use Rattle.reader.proofs.table.put_quantifiers.Goals as goal
 
 pub loop-i-init : goal.loop-i-init
-loop-i-init c =
-    quantifiers_start _ _ _ _ _ c.requires.at_in_bounds
-
-pub quantifies-requires : goal.quantifies-requires
-quantifies-requires c =
-    c.loop-i.invariant.inside
-
-pub shape_of-words-then-not-quantifies : goal.shape_of-words-then-not-quantifies
-shape_of-words-then-not-quantifies c =
-    c.loop-i.invariant.left.words.long
-
-pub returns-then-not-quantifies : goal.returns-then-not-quantifies
-returns-then-not-quantifies c =
-    quantifiers_stop _ _ _ _ _ _ _ _ c.loop-i.invariant (sym c.quantifies.ensures ∙ c.if-not-quantifies.true)
-
-pub quantifier_at-quantifier-requires : goal.quantifier_at-quantifier-requires
-quantifier_at-quantifier-requires c =
-    c.loop-i.invariant.inside
-
-pub put_word-requires : goal.put_word-requires
-put_word-requires c =
-    record { fits = omega (arith, c.requires.quantifiers_in_bounds, c.loop-i.invariant.left.words.long) }
+loop-i-init c = left_start (map quantifier_word) 1
 
 pub loop-i-preserved : goal.loop-i-preserved
 loop-i-preserved c =
-    quantifiers_step _ _ _ _ _ _ _ _ c.loop-i.invariant c.loop-i-test.true
-    (sym c.quantifies.ensures ∙ c.if-not-quantifies.false) c.quantifier_at-quantifier.ensures c.put_word.ensures
+    let word : SFits w64 c.quantifier-quantifier.result.value = search rules in
+    left_step (map quantifier_word) 1 quantifiers_run limits.quantifiers c.loop-i.invariant c.loop-i-test.true (sym c.quantifies.ensures ∙ c.if-not-quantifies.false)
+    (λ xs. rw c.quantifier-quantifier.ensures.value) refl (omega arith) (simp to_z-of_z at c.put_held.ensures) c.quantifier-quantifier.ensures.rest
 
-pub shape_of-words : goal.shape_of-words
-shape_of-words c =
-    c.loop-i.invariant.left.words.long
+pub returns-then-not-quantifies-clause-put : goal.returns-then-not-quantifies-clause-put
+returns-then-not-quantifies-clause-put c =
+    left_over (map quantifier_word) 1 quantifiers_run limits.quantifiers c.loop-i.invariant refl _ refl refl (sym c.quantifies.ensures ∙ c.if-not-quantifies.true)
 
-pub returns : goal.returns
-returns c =
-    quantifiers_end _ _ _ _ _ _ _ _ c.loop-i.invariant c.loop-i-test.false
+pub returns-clause-put : goal.returns-clause-put
+returns-clause-put c =
+    left_full (map quantifier_word) 1 quantifiers_run limits.quantifiers c.loop-i.invariant refl _ (omega arith) refl c.loop-i-test.false

@@ -1,11 +1,11 @@
 -- `reader::table::put_quantifiers` meets its contract: what is left of the text decides. Assumes nothing.
-use Prim.Native.Nat.{◌-◌}
+use Rattle.std.proofs.Common.{◌-◌, map}
+use Rattle.checker.specs.Words.{quantifier_word}
+use Rattle.sentence.specs.Scan.{quantifiers_from}
+use Rattle.scanner.specs.Finds.{most}
 use Rattle.reader.specs.Runs.{limits}
-use Rattle.reader.proofs.Lefts.{QuantifiersLeft}
+use Rattle.reader.proofs.Lefts.{Left}
 use Rattle.reader.proofs.table.put_quantifiers.Given as goal
 
 abbrev pub invariant-loop-i : goal.invariant-loop-i
-invariant-loop-i l = QuantifiersLeft limits.quantifiers l.text l.at l.initial.words l.from l.words l.here l.i
-
-abbrev pub decreases-loop-i : goal.decreases-loop-i
-decreases-loop-i l = limits.quantifiers - l.i
+invariant-loop-i l = Left (map quantifier_word) 1 (quantifiers_from most limits.quantifiers l.text) l.initial.words l.from l.words l.i (quantifiers_from most (limits.quantifiers - l.i) l.rest)
