@@ -1,9 +1,9 @@
 pub mod Entries
+pub mod Fronts
 pub mod Forms
-pub mod Kindwise
 pub mod Parts
-pub mod Short
 pub mod Steps
 pub mod Whole
+pub mod Short
 pub mod Answers
 pub mod Examples

@@ -2,23 +2,36 @@
 
 #![tactic(auto)]
 
-ghost use Rattle.std.specs.Prelude.{◌≡◌, length};
+ghost use Rattle.std.specs.Prelude.{◌≡◌, ◌≤◌, length};
 ghost use Rattle.checker.specs.Words.{claim_of};
+ghost use Rattle.lent.specs.Write.{Wrote};
+ghost use Rattle.sentence.specs.Text.{text_of};
 ghost use Rattle.solver.specs.Laid.{Laid};
 ghost use Rattle.solver.specs.Written.{fitted, written_of, held_after, out_after};
 
 use checker::{Dialect, Refusal, Shape};
+use sinks::Text;
 
 mod expression; // the expression of a node
 mod kinds; // kinds by name
 mod lines; // the lines of a node and of a quantifier
 mod pieces; // bytes with numbers between them
-mod size; // how long the text is
+mod sinks; // where the text goes
 mod text; // the text of a claim
 
-pub use lines::{put_line, put_quantifier};
-pub use pieces::put_one;
-pub use size::closing;
+pub use sinks::Sink;
+pub use text::put_text;
+
+// The text from the start of `out` on, if it has room there, and how long it is.
+fn text_into(words: &[i32], shape: Shape, out: &mut [u8]) -> usize
+    requires { Laid words.now shape }
+    ensures length { result ≡ length (text_of (claim_of words.now)) }
+    ensures written { length (text_of (claim_of words.now)) ≤ length out.old → Wrote out.old 0 (text_of (claim_of words.now)) out.new result }
+{
+    let mut text = Text { out, length: 0 };
+    put_text(words, shape, &mut text);
+    text.length
+}
 
 // The text is measured first, so that a refusal writes nothing.
 fn write_claim(words: &[i32], shape: Shape, out: &mut [u8]) -> Result<usize, Refusal>
@@ -26,11 +39,11 @@ fn write_claim(words: &[i32], shape: Shape, out: &mut [u8]) -> Result<usize, Ref
     ensures value { result ≡ fitted (length out.old) (claim_of words.now) }
     ensures out_after { out.new ≡ held_after result (claim_of words.now) out.old }
 {
-    let needed = size::text_length(words, shape);
+    let needed = text_into(words, shape, &mut []);
     if out.len() < needed {
         return Err(Refusal::TooShort(needed));
     }
-    Ok(text::put_text(words, shape, out))
+    Ok(text_into(words, shape, out))
 }
 
 // Writes the text of an emitted claim from the start of `out` on, and says how many bytes that takes.

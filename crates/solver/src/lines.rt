@@ -1,35 +1,45 @@
 // The lines of a node and of a quantifier.
-ghost use Rattle.std.specs.Prelude.{pos};
-ghost use Rattle.checker.specs.Kinds.{node_of, quantifier_of};
-ghost use Rattle.lent.specs.Write.{Room, Wrote};
+
+ghost use Rattle.std.specs.Prelude.{◌+◌, ◌*◌, ◌≤◌, pos, length};
+ghost use Rattle.checker.specs.Kinds.{quantifier_of};
+ghost use Rattle.checker.specs.Words.{node_at};
 ghost use Rattle.sentence.specs.Lines.{node_line, quantifier_line};
+ghost use Rattle.solver.specs.Laid.{longest_line};
 
 use crate::expression::put_expression;
 use crate::kinds::{ALL_COUNTS, ALL_INTEGERS, ALL_SETS, SOME_COUNT, SOME_SET};
 use crate::pieces::{put_count, put_one};
+use crate::sinks::Sink;
 
-// The line of node i, which is of this kind and has the words a and b.
-pub fn put_line(out: &mut [u8], at: usize, i: usize, kind: usize, a: i32, b: i32) -> usize
-    requires { Room out.old at (node_line i (node_of (pos kind) a b)) }
-    ensures { Wrote out.old at (node_line i (node_of (pos kind) a b)) out.new result }
+// The line of node i of a table.
+pub fn put_node<S: Sink>(words: &[i32], i: usize, sink: &mut S)
+    requires { 3 * i + 3 ≤ length words.now }
+    ensures put { S.took sink.old (node_line i (node_at words.now i)) sink.new }
+    ensures short { length (node_line i (node_at words.now i)) ≤ longest_line }
 {
-    let expression = put_one(out, at, b"(let ((n", i as u64, b" ");
-    let end = put_expression(out, expression, kind, a, b);
-    decimal::put_bytes(out, end, b"))\n")
+    put_one(sink, b"(let ((n", i as u64, b" ");
+    put_expression(
+        sink,
+        checker::word(words, 3 * i),
+        words[3 * i + 1],
+        words[3 * i + 2],
+    );
+    sink.put(b"))\n");
 }
 
 // The lines of quantifier i. One over sets has none, and the checker refuses it.
-pub fn put_quantifier(out: &mut [u8], at: usize, i: usize, kind: usize) -> usize
-    requires { Room out.old at (quantifier_line i (quantifier_of (pos kind))) }
-    ensures { Wrote out.old at (quantifier_line i (quantifier_of (pos kind))) out.new result }
+#[tactic(auto, using(crate::proofs::Short::quantifier_short))]
+pub fn put_quantifier<S: Sink>(sink: &mut S, i: usize, kind: usize)
+    ensures put { S.took sink.old (quantifier_line i (quantifier_of (pos kind))) sink.new }
+    ensures short { length (quantifier_line i (quantifier_of (pos kind))) ≤ longest_line }
 {
     let n = i as u64;
     match kind {
-        ALL_INTEGERS => put_one(out, at, b"(forall ((q", n, b" Int))\n"),
-        SOME_SET => at,
-        ALL_SETS => at,
-        SOME_COUNT => put_count(out, at, b"(exists ((q", b"(and (>= q", n),
-        ALL_COUNTS => put_count(out, at, b"(forall ((q", b"(=> (>= q", n),
-        _ => put_one(out, at, b"(exists ((q", n, b" Int))\n"),
+        ALL_INTEGERS => put_one(sink, b"(forall ((q", n, b" Int))\n"),
+        SOME_SET => (),
+        ALL_SETS => (),
+        SOME_COUNT => put_count(sink, b"(exists ((q", b"(and (>= q", n),
+        ALL_COUNTS => put_count(sink, b"(forall ((q", b"(=> (>= q", n),
+        _ => put_one(sink, b"(exists ((q", n, b" Int))\n"),
     }
 }

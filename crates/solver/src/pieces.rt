@@ -1,38 +1,45 @@
-// Bytes with one or two numbers between them. Each function answers the place after what it put.
-ghost use Rattle.lent.specs.Write.{Room, Wrote};
+// Bytes with one or two numbers between them.
+ghost use Rattle.decimal.specs.Printing.{decimal};
 ghost use Rattle.solver.specs.Pieces.{one_text, two_text, pair_text, count_text};
 
-pub fn put_one(out: &mut [u8], at: usize, s: &[u8], n: u64, t: &[u8]) -> usize
-    requires { Room out.old at (one_text s.now n t.now) }
-    ensures { Wrote out.old at (one_text s.now n t.now) out.new result }
+use crate::sinks::Sink;
+
+// A number has at most twenty digits.
+pub fn put_number<S: Sink>(sink: &mut S, n: u64)
+    ensures { S.took sink.old (decimal n) sink.new }
 {
-    let number = decimal::put_bytes(out, at, s);
-    let end = decimal::put_decimal(out, number, n);
-    decimal::put_bytes(out, end, t)
+    let mut digits = [0u8; 20];
+    let end = decimal::put_decimal(&mut digits, 0, n);
+    sink.put(&digits[..end]);
 }
 
-pub fn put_two(out: &mut [u8], at: usize, s: &[u8], a: u64, m: &[u8], b: u64, t: &[u8]) -> usize
-    requires { Room out.old at (two_text s.now a m.now b t.now) }
-    ensures { Wrote out.old at (two_text s.now a m.now b t.now) out.new result }
+pub fn put_one<S: Sink>(sink: &mut S, s: &[u8], n: u64, t: &[u8])
+    ensures { S.took sink.old (one_text s.now n t.now) sink.new }
 {
-    let second = put_one(out, at, s, a, m);
-    let end = decimal::put_decimal(out, second, b);
-    decimal::put_bytes(out, end, t)
+    sink.put(s);
+    put_number(sink, n);
+    sink.put(t);
+}
+
+pub fn put_two<S: Sink>(sink: &mut S, s: &[u8], a: u64, m: &[u8], b: u64, t: &[u8])
+    ensures { S.took sink.old (two_text s.now a m.now b t.now) sink.new }
+{
+    put_one(sink, s, a, m);
+    put_number(sink, b);
+    sink.put(t);
 }
 
 // An operator, given with its bracket and the first n, and two nodes.
-pub fn put_pair(out: &mut [u8], at: usize, s: &[u8], a: u64, b: u64) -> usize
-    requires { Room out.old at (pair_text s.now a b) }
-    ensures { Wrote out.old at (pair_text s.now a b) out.new result }
+pub fn put_pair<S: Sink>(sink: &mut S, s: &[u8], a: u64, b: u64)
+    ensures { S.took sink.old (pair_text s.now a b) sink.new }
 {
-    put_two(out, at, s, a, b" n", b, b")")
+    put_two(sink, s, a, b" n", b, b")");
 }
 
 // A quantifier's line, and the one that says of its variable that it is at least 0.
-pub fn put_count(out: &mut [u8], at: usize, s: &[u8], g: &[u8], n: u64) -> usize
-    requires { Room out.old at (count_text s.now g.now n) }
-    ensures { Wrote out.old at (count_text s.now g.now n) out.new result }
+pub fn put_count<S: Sink>(sink: &mut S, s: &[u8], g: &[u8], n: u64)
+    ensures { S.took sink.old (count_text s.now g.now n) sink.new }
 {
-    let guard = put_one(out, at, s, n, b" Int))\n");
-    put_one(out, guard, g, n, b" 0)\n")
+    put_one(sink, s, n, b" Int))\n");
+    put_one(sink, g, n, b" 0)\n");
 }

@@ -11,15 +11,15 @@ pub returns-then-out-needed : goal.returns-then-out-needed
 returns-then-out-needed c =
     let claim = claim_of c.args.words.now in
     record {
-      value = too_short claim (length c.args.out.now) c.text_length-needed.ensures c.if-out-needed.true;
+      value = too_short claim (length c.args.out.now) c.text_into-needed.ensures.length c.if-out-needed.true;
       out_after = refused_held claim _ c.args.out.now;
     }
 
 pub returns : goal.returns
 returns c =
     let claim = claim_of c.args.words.now in
-    let put = c.put_text.ensures in
-    let room : length (text_of claim) ≤ length c.args.out.now = omega (arith, c.text_length-needed.ensures, c.if-out-needed.false) in
+    let room : length (text_of claim) ≤ length c.args.out.now = omega (arith, c.text_into-needed.ensures.length, c.if-out-needed.false) in
+    let put = c.text_into.ensures.written room in
     record {
       value = written_fitted claim put room;
       out_after = written_held claim put room;
