@@ -27,7 +27,7 @@ use Rattle.sentence.specs.Scan.{scan}
 use Rattle.sentence.specs.Reading.{Reads, Within}
 use Rattle.sentence.proofs.Reading.{reads_once, reads_scan}
 use Rattle.reader.specs.Held.{in_words, held}
-use Rattle.reader.specs.Passing.{same}
+use Rattle.reader.specs.Same.{same}
 use Rattle.reader.specs.Runs.{limits}
 use Rattle.reader.specs.Answer.{accepts, takes, WriterTakes, writes, given, answer, read_of, held_after, out_after}
 use Rattle.reader.proofs.Words.{all_held_in, all_held, fields_small}
@@ -177,7 +177,7 @@ module _ (text : List ℕ) where
         let k : length (words_of (scan limits text)) ≤ room = omega (arith, count) in
         rw (told true h, le-ltb room (length (words_of (scan limits text))) k, count)
 
-    words_are : writes ws text ≡ true → ws ≡ words_of (scan limits text)
+    pub words_are : writes ws text ≡ true → ws ≡ words_of (scan limits text)
     words_are h =
         let (t, s) = (and-eq-true_iff (takes (scan limits text)) (same (text_of (scan limits text)) text)).0 (told true h) in
         e ∙ all_held (words_of (scan limits text)) (takes_parts (scan limits text) t).0

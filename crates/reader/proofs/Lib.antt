@@ -1,5 +1,4 @@
 pub mod Words
-pub mod Fronts
 pub mod Lefts
 pub mod Agrees
 pub mod Scans

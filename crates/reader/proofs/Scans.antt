@@ -14,7 +14,7 @@ use Rattle.scanner.specs.declared.Found.{Found}
 use Rattle.scanner.specs.Finds.{most, Finds}
 use Rattle.reader.specs.Held.{held}
 use Rattle.reader.specs.Runs.{limits, most_words, RunPut}
-use Rattle.reader.proofs.Fronts.{front_is}
+use Rattle.solver.proofs.Fronts.{front_is}
 
 module _ (text : List ℕ) {start name : List ℕ} {l l₁ l₂ l₃ l₄ : List ℤ} {q ns qs : Found ℕ} {root : Found ℤ} {n : ℕ}
     (opened : start ≡ drop 75 text)

@@ -12,7 +12,7 @@ use Rattle.checker.specs.Check.{check_as}
 use Rattle.sentence.specs.Text.{text_of}
 use Rattle.sentence.specs.Scan.{scan}
 use Rattle.reader.specs.Held.{in_words}
-use Rattle.reader.specs.Passing.{same}
+use Rattle.reader.specs.Same.{same}
 use Rattle.reader.specs.Runs.{limits}
 
 -- ---- what the writer takes

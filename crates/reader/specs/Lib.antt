@@ -1,5 +1,6 @@
 -- What is believed of the reader.
 pub mod Held
 pub mod Runs
-pub mod Passing
+pub mod Same
+pub mod Left
 pub mod Answer

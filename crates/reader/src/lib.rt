@@ -3,7 +3,7 @@
 
 #![tactic(auto)]
 
-ghost use Rattle.std.specs.Prelude.{◌≡◌, ◌++◌, map, ◌≤◌, length, drop};
+ghost use Rattle.std.specs.Prelude.{◌≡◌, map, ◌≤◌, length};
 ghost use Rattle.checker.specs.Words.{words_of};
 ghost use Rattle.sentence.specs.Scan.{scan};
 ghost use Rattle.reader.specs.Held.{held};
@@ -13,7 +13,7 @@ ghost use Rattle.reader.specs.Answer.{writes, read_of, out_after};
 use checker::names::{MAX_EMITTED_NODES, MAX_EMITTED_QUANTIFIERS};
 use checker::{Dialect, Refusal};
 
-mod passing; // a text held against what the writer would write
+mod same; // a text held against what the writer would write
 mod table; // the words of the claim that a text is scanned as
 
 // The words of the largest claim that the writer takes.
@@ -24,23 +24,13 @@ fn written(text: &[u8], words: &[i32]) -> bool
     ensures { result ≡ writes words.now text.now }
 {
     match checker::check_as(words, Dialect::Emitted) {
-        Ok(shape) => passing::same_text(text, words, shape),
+        Ok(shape) => same::same_text(text, words, shape),
         Err(_) => false,
     }
 }
 
-fn copy(words: &[i32], out: &mut [i32])
-    requires { length words.now ≤ length out.old }
-    ensures { out.new ≡ words.now ++ drop (length words.now) out.old }
-{
-    let mut i = 0;
-    while i < words.len() {
-        out[i] = words[i];
-        i += 1;
-    }
-}
-
 // What the words that the text was scanned as come to. 21 is tested before 8.
+#[tactic(auto, using(crate::proofs::Answers::answered_21, crate::proofs::Answers::answered_8, crate::proofs::Answers::answered, crate::proofs::Answers::words_are, lent::proofs::Writing::wrote_front), unfolding(crate::specs::Answer::out_after, crate::specs::Answer::held_after))]
 fn answer(text: &[u8], words: &[i32], out: &mut [i32]) -> Result<usize, Refusal>
     requires { words.now ≡ map held (words_of (scan limits text.now)) }
     ensures value { result ≡ read_of text.now (length out.old) }
@@ -53,8 +43,7 @@ fn answer(text: &[u8], words: &[i32], out: &mut [i32]) -> Result<usize, Refusal>
     if out.len() < needed {
         return Err(Refusal::TooShort(needed));
     }
-    copy(words, out);
-    Ok(needed)
+    Ok(lent::put_all(out, 0, words))
 }
 
 // Scans into the words lent, which hold the largest claim, so that `out` is touched by an answer alone.

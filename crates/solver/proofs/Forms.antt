@@ -1,7 +1,7 @@
 -- The text of each form of expression, as the writer puts it together from bytes and numbers. Assumes nothing.
 use mathlib.Core.Path.{◌≡◌, refl}
 use mathlib.Core.Bool.{true, false, true≢false}
-use mathlib.Core.List.{List, ◌++◌, append_assoc}
+use mathlib.Core.List.{◌++◌, append_assoc}
 use Prim.Native.Nat.{ℕ, zero, suc}
 use native.Mathlib.Nat.{not-suc-le-zero}
 use native.Mathlib.Omega.{arith}
@@ -10,26 +10,9 @@ use lib.IntN.{ℤ, pos, negsuc, nat_abs}
 use lib.Signed.{lt_z}
 use Rattle.decimal.specs.Printing.{decimal}
 use Rattle.sentence.specs.Bytes.{bytes}
-use Rattle.sentence.specs.Sentences.{whole_number}
 use Rattle.sentence.specs.Text.{name_text, expr_text}
 use Rattle.sentence.proofs.Expressions.{zero_text, parts}
 use Rattle.solver.specs.Pieces.{one_text, two_text, multiple_text, divided_text}
-
--- two numbers, from the bytes with the first number on
-pub two_parts : (s : List ℕ) (a : ℕ) (m : List ℕ) (b : ℕ) (t : List ℕ) → two_text s a m b t ≡ one_text s a m ++ (decimal b ++ t)
-two_parts s a m b t = simp append_assoc
-
--- ---- constants
-
-pub constant_below : (w : ℤ) → lt_z w (pos 0) ≡ true → expr_text (whole_number w) ≡ one_text (bytes "(- ") (nat_abs w) (bytes ")")
-unfolding expr_text
-constant_below (pos n) h = absurd (not-suc-le-zero (ltb-true n 0 h))
-constant_below (negsuc n) h = refl
-
-pub constant_from_0 : (w : ℤ) → lt_z w (pos 0) ≡ false → expr_text (whole_number w) ≡ decimal (nat_abs w)
-unfolding expr_text
-constant_from_0 (pos n) h = refl
-constant_from_0 (negsuc n) h = absurd (true≢false h)
 
 -- ---- multiples
 

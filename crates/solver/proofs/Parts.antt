@@ -1,7 +1,7 @@
 -- The lines of a node and of a quantifier, as the writer puts them together. Assumes nothing.
 use mathlib.Core.Path.{◌≡◌, refl}
 use mathlib.Core.Bool.{true, false}
-use mathlib.Core.List.{List, [], ◌++◌, append_assoc}
+use mathlib.Core.List.{List, ◌++◌, append_assoc}
 use Prim.Native.Nat.{ℕ, zero, suc}
 use lib.IntN.{pos}
 use Rattle.checker.specs.Claim.{Node, int_q}
@@ -47,18 +47,6 @@ other_exists (suc (suc (suc (suc (suc (suc (suc k))))))) h = refl
 module _ (i k : ℕ) where
   abbrev line : List ℕ
   line = quantifier_line i (quantifier_of (pos k))
-
-  pub integers_line : k ≡ 2 → line ≡ one_text (bytes "(forall ((q") i (bytes " Int))\n")
-  unfolding quantifier_of number quantifier_line quantify_line name_text
-  integers_line e = rw e
-
-  pub some_set_line : k ≡ 3 → line ≡ []
-  unfolding quantifier_of number quantifier_line
-  some_set_line e = rw e
-
-  pub all_sets_line : k ≡ 4 → line ≡ []
-  unfolding quantifier_of number quantifier_line
-  all_sets_line e = rw e
 
   pub some_count_line : k ≡ 5 → line ≡ count_text (bytes "(exists ((q") (bytes "(and (>= q") i
   unfolding quantifier_of number quantifier_line quantify_line name_text

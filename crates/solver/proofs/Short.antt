@@ -3,22 +3,19 @@ use mathlib.Core.Path.{refl}
 use mathlib.Core.Bool.{true, false}
 use mathlib.Core.List.{List, [], ◌∷◌, ◌++◌}
 use mathlib.Core.Logic.{inr}
-use Prim.Native.Nat.{ℕ, zero, suc, ◌+◌, ◌-◌, ◌*◌, ◌<◌, ◌≤◌, ◌^◌}
-use native.Mathlib.Nat.{le_refl, lt_of_le_of_lt, lt_of_lt_of_le}
-use native.Mathlib.Numerals.{add-one}
+use Prim.Native.Nat.{ℕ, zero, suc, ◌+◌, ◌*◌, ◌<◌, ◌≤◌, ◌^◌}
+use native.Mathlib.Nat.{lt_of_le_of_lt}
 use native.Mathlib.Omega.{arith}
 use borrow.Author.Tests.{le-ltb}
-use lib.Dec.{lit<, lit≤}
+use lib.Dec.{lit<}
 use lib.IntN.{ℤ, pos, negsuc, nat_abs}
-use lib.ListN.{length, take, length-append}
+use lib.ListN.{length, length-append}
 use mir.Syntax.{w32}
 use mir.Val.{SFits}
 use Rattle.checker.specs.declared.Shape.{Shape}
 use Rattle.checker.specs.Claim.{Quantifier, int_q, set_q, count_q}
-use Rattle.checker.specs.Dialect.{most_nodes, most_quantifiers}
-use Rattle.checker.specs.Kinds.{number, sort_table, node_of, quantifier_of}
-use Rattle.checker.specs.Words.{word, word_at, node_at, claim_of}
-use Rattle.checker.specs.declared.Dialect.TheVariants.{Emitted}
+use Rattle.checker.specs.Kinds.{number, sort_table, node_of}
+use Rattle.checker.specs.Words.{claim_of}
 use Rattle.checker.proofs.Rowwise.{◌▸◌}
 use Rattle.decimal.specs.Printing.{decimal}
 use Rattle.decimal.proofs.Decimals.{decimal-length, decimal_short}
@@ -31,9 +28,7 @@ use Rattle.solver.specs.Laid.{Laid, longest_line, root_line}
 use Rattle.solver.proofs.Entries.{by_entry}
 use Rattle.solver.proofs.Forms.{multiple_below, multiple_from_0, divided_0, divided_below, divided_above}
 use Rattle.solver.proofs.Parts.{line_parts, count_some, count_all}
-use Rattle.solver.proofs.Steps.{node_is, nodes_more, quantifiers_more}
 use Rattle.solver.proofs.Whole.{text_length}
-use Rattle.std.proofs.lemmas.List.{take_all}
 
 -- at most ten digits
 abbrev Ten : ℕ → Type 0

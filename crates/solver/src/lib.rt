@@ -34,6 +34,7 @@ fn text_into(words: &[i32], shape: Shape, out: &mut [u8]) -> usize
 }
 
 // The text is measured first, so that a refusal writes nothing.
+#[tactic(auto, using(lent::proofs::Writing::wrote_front), unfolding(crate::specs::Written::fitted, crate::specs::Written::held_after))]
 fn write_claim(words: &[i32], shape: Shape, out: &mut [u8]) -> Result<usize, Refusal>
     requires { Laid words.now shape }
     ensures value { result ≡ fitted (length out.old) (claim_of words.now) }
@@ -47,6 +48,7 @@ fn write_claim(words: &[i32], shape: Shape, out: &mut [u8]) -> Result<usize, Ref
 }
 
 // Writes the text of an emitted claim from the start of `out` on, and says how many bytes that takes.
+#[tactic(auto, using(crate::proofs::Answers::laid), unfolding(crate::specs::Written::written_of, crate::specs::Written::answer, crate::specs::Written::out_after, crate::specs::Written::held_after))]
 pub fn write_text(words: &[i32], out: &mut [u8]) -> Result<usize, Refusal>
     ensures value { result ≡ written_of words.now (length out.old) }
     ensures out_after { out.new ≡ out_after words.now out.old }

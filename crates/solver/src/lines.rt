@@ -28,7 +28,7 @@ pub fn put_node<S: Sink>(words: &[i32], i: usize, sink: &mut S)
 }
 
 // The lines of quantifier i. One over sets has none, and the checker refuses it.
-#[tactic(auto, using(crate::proofs::Short::quantifier_short))]
+#[tactic(auto, using(crate::proofs::Short::quantifier_short), unfolding(checker::specs::Kinds::quantifier_of, checker::specs::Kinds::number, sentence::specs::Lines::quantifier_line, sentence::specs::Text::quantify_line, sentence::specs::Text::name_text))]
 pub fn put_quantifier<S: Sink>(sink: &mut S, i: usize, kind: usize)
     ensures put { S.took sink.old (quantifier_line i (quantifier_of (pos kind))) sink.new }
     ensures short { length (quantifier_line i (quantifier_of (pos kind))) ≤ longest_line }

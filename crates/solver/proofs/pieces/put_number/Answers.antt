@@ -1,5 +1,5 @@
 -- `solver::pieces::put_number` meets its contract: no number of 64 bits has more than twenty digits. Assumes nothing.
-use Rattle.std.proofs.Common.{arith, rules}
+use Rattle.std.proofs.Common.{arith}
 use Rattle.decimal.proofs.Decimals.{decimal_short}
 use Rattle.solver.proofs.Fronts.{front_within, front_length, front_is}
 use Rattle.solver.proofs.pieces.put_number.Goals as goal

@@ -1,7 +1,5 @@
 -- `solver::text::put_nodes` meets its contract: one more line behind those that are put. Assumes nothing.
 use Rattle.std.proofs.Common.{arith, length-append}
-use Rattle.checker.specs.Words.{node_at}
-use Rattle.sentence.specs.Lines.{node_line, node_lines}
 use Rattle.solver.proofs.Steps.{nodes_more}
 use Rattle.solver.proofs.text.put_nodes.Goals as goal
 
