@@ -1,5 +1,4 @@
 -- What the checker accepts: exactly the words of well-sorted claims within the limits of the dialect, of kinds that it takes. Assumes nothing.
-use Rattle.std.proofs.Common.{Ok}
 use mathlib.Core.Path.{◌≡◌, refl, sym, ◌∙◌, ap}
 use mathlib.Core.Logic.{◌↔◌}
 use mathlib.Core.Bool.{true, false}
@@ -8,7 +7,7 @@ use Prim.Native.Nat.{ℕ, zero, suc, ◌+◌, ◌*◌, ◌<◌}
 use native.Mathlib.Omega.{arith}
 use borrow.Author.Tests.{lt-ltb}
 use lib.IntN.{ℤ, pos}
-use Rattle.std.specs.Prelude.{Option, Some, None, is_some}
+use Rattle.std.specs.Prelude.{Option, Some, None, is_some, Ok}
 use lib.ListN.{length, get_or, take, length-map, get_or-append}
 use lib.Seq.{get_or-append-add, get_or-take, length-take-le}
 use Rattle.checker.specs.declared.Dialect.{Dialect}
@@ -22,9 +21,9 @@ use Rattle.checker.specs.Kinds.{number, sort_of, range_of, is_range}
 use Rattle.checker.specs.Words.{word, word_at, nodes_in, quantifiers_in, claim_of, fields_of, node_words, nodes_words, quantifier_word, trailer, words_of}
 use Rattle.checker.specs.Sorts.{sort, is_set_q, WellSorted, sets}
 use Rattle.checker.specs.Search.{count}
-use Rattle.checker.specs.Table.{field_good, obeys, node_good, child_sort, root_good, binds_set}
+use Rattle.checker.specs.Table.{obeys, node_good, root_good, binds_set}
 use Rattle.checker.specs.Dialect.{takes_kind, takes_quantifier}
-use Rattle.checker.specs.Check.{check_as, check_of, table_at, kind_in, quantifier_kind, shape_of}
+use Rattle.checker.specs.Check.{check_as, check_of, table_at, kind_in, quantifier_kind}
 use Rattle.checker.specs.Accepted.{LimitedAs, Limited, Taken, claim_shape}
 use Rattle.checker.proofs.Tab.{tab-length}
 use Rattle.checker.proofs.Limits.{nodes_most, quantifiers_most, all_of, all_at}
@@ -49,7 +48,7 @@ shape_is : {s t : Shape} → s.nodes ≡ t.nodes → s.quantifiers ≡ t.quantif
 shape_is n q m r = λ i. record { nodes = n i; quantifiers = q i; sets = m i; root = r i }
 
 pub accepted_claim_as : (d : Dialect) (ws : List ℤ) (s : Shape) → check_as d ws ≡ Ok s → ClaimedAs d ws s
-unfolding shape_of table_at claim_of
+unfolding claim_of
 accepted_claim_as d ws s e =
     let a = accepted_good d ws s e in
     let g = a.0 in
@@ -138,7 +137,6 @@ module _ (d : Dialect) (c : Claim) where
   range_at i h = ap (λ z. range_of (number z)) (quantifier_at_lem i h) ∙ word_range (get_or c.quantifiers i (int_q true))
 
   sets_in_lem : count (binds_set (table_at ws n q)) q ≡ sets c.quantifiers
-  unfolding binds_set table_at
   sets_in_lem =
       counted (binds_set (table_at ws n q)) c.quantifiers
       (λ i h. ap (is_range Sets) (range_at i h) ∙ over_range (is_set_q (get_or c.quantifiers i (int_q true))))
@@ -146,14 +144,12 @@ module _ (d : Dialect) (c : Claim) where
   module _ (limited : LimitedAs d c) (taken : Taken d c) (sorted : WellSorted c) where
     obeyed : (i : ℕ) → i < n → (row : Option Row)
         → Obeys c.quantifiers (take i c.nodes) (kind_in ws) (quantifier_kind ws n) row (fields_of (at i)).a (fields_of (at i)).b → obeys (table_at ws n q) i row ≡ true
-    unfolding field_good table_at
     obeyed i h None o = absurd o
     obeyed i h (Some row) o =
         let l : length (take i c.nodes) ≡ i = length-take-le i c.nodes (omega arith) in
         rw (a_at i h, b_at i h) (joint (rw l at o.0) (rw l at o.1))
 
     node_passes : (i : ℕ) → i < n → node_good (table_at ws n q) i ≡ true
-    unfolding node_good table_at
     node_passes i h =
         let l : length (take i c.nodes) ≡ i = length-take-le i c.nodes (omega arith) in
         let f = fits_served c.quantifiers (take i c.nodes) (kind_in ws) (quantifier_kind ws n)
@@ -173,7 +169,6 @@ module _ (d : Dialect) (c : Claim) where
         ∙ all_at (λ x. takes_quantifier d (number (quantifier_word x))) c.quantifiers taken.quantifiers (int_q true) i h
 
     root_passes : root_good (table_at ws n q) ≡ true
-    unfolding root_good child_sort table_at
     root_passes =
         let h : c.root < n = sorted.1.0 in
         let s : sort_of (kind_in ws c.root) ≡ Some AFormula = ap sort_of (kind_at c.root h) ∙ sym (sort_kind (at c.root)) ∙ sorted.1.1 in
@@ -181,7 +176,6 @@ module _ (d : Dialect) (c : Claim) where
 
     -- The words of a well-sorted claim within the limits, of kinds that are taken, are accepted.
     pub claim_accepted_as : check_as d ws ≡ Ok (claim_shape c)
-    unfolding shape_of table_at
     claim_accepted_as =
         good_accepted d ws n q
         (record {

@@ -12,9 +12,8 @@ use Rattle.checker.specs.declared.Dialect.TheVariants.{SetClaims, Emitted}
 use Rattle.checker.specs.Kinds.{number, row_of, sort_of, range_of}
 use Rattle.checker.specs.Words.{word_at, tab}
 use Rattle.checker.specs.Search.{first, first_from, count}
-use Rattle.checker.specs.Table.{child_sort, name_range, serves, field_good, node_good, node_taken, bad_node, root_good, quantifier_taken, bad_quantifier, binds_set, one_too_many}
 use Rattle.checker.proofs.Rowwise.{◌▸◌}
-use Rattle.checker.specs.Check.{verdict, shape_tests, quantifier_tests, node_refusal, node_tests, shape_of, parts_of, table_at, rest_of, check_as}
+use Rattle.checker.specs.Check.{verdict, check_as}
 
 pub record Example : Type 0 where
   pub words : List ℤ
@@ -72,7 +71,7 @@ AllRight d [] = Unit {0}
 AllRight d (e ∷ es) = (check_as d e.words ≡ e.answer) × AllRight d es
 
 pub examples_right : AllRight SetClaims examples × AllRight Emitted emitted_examples
-unfolding check_as rest_of table_at parts_of shape_of node_tests node_refusal quantifier_tests shape_tests verdict one_too_many binds_set bad_quantifier quantifier_taken root_good bad_node node_taken node_good field_good serves name_range child_sort count first_from first word_at range_of sort_of row_of number
+unfolding check_as verdict count first_from first word_at range_of sort_of row_of number
 examples_right = (
   refl ▸ refl ▸ refl ▸ refl ▸ refl ▸ refl ▸ refl ▸ refl ▸ refl ▸ refl ▸ refl ▸ tt,
   refl ▸ refl ▸ refl ▸ refl ▸ refl ▸ tt,

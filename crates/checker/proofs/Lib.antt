@@ -3,7 +3,6 @@ pub mod Search
 pub mod Signed
 pub mod Rows
 pub mod Sorts
-pub mod Rules
 pub mod Verdict
 pub mod Words
 pub mod Rowwise

@@ -1,27 +1,26 @@
 -- A table is accepted exactly where every test fails, and each failed test is a fact. Assumes nothing.
-use Rattle.std.proofs.Common.{Result, Ok, Err}
-use Rattle.checker.specs.declared.refusals.Refusal.{Refusal}
-use mathlib.Core.Path.{◌≡◌, refl, sym, ◌∙◌, ap}
+use mathlib.Core.Path.{◌≡◌, refl, ◌∙◌}
 use mathlib.Core.Bool.{Bool, true, false, not, cond, ◌&&◌}
 use mathlib.Core.List.{List, [], ◌∷◌}
 use Prim.Native.Nat.{ℕ, zero, suc, ◌+◌, ◌*◌, ◌-◌, ◌≤◌, ◌<◌}
 use native.Mathlib.Omega.{arith}
-use borrow.Author.Tests.{ltb-false, leb-true, eqb-true, eqb-false, not-false, ne_eqb}
+use borrow.Author.Tests.{ltb-false, leb-true, eqb-true, eqb-false, not-false}
 use lib.Dec.{eqb}
+use Rattle.std.proofs.lemmas.Bool.Decides.{nat_tests}
 use lib.IntN.{ℤ}
 use lib.ListN.{length}
-use Rattle.std.specs.Prelude.{is_some}
+use Rattle.std.specs.Prelude.{is_some, Result, Ok, Err}
 use Rattle.checker.specs.declared.Dialect.{Dialect}
 use Rattle.checker.specs.declared.Shape.{Shape}
+use Rattle.checker.specs.declared.refusals.Refusal.{Refusal}
 use Rattle.checker.specs.Kinds.{range_of}
-use Rattle.checker.specs.Words.{word_at, root_in, nodes_in, quantifiers_in, mark}
-use Rattle.checker.specs.Search.{first, count}
+use Rattle.checker.specs.Words.{word_at, nodes_in, quantifiers_in, mark}
+use Rattle.checker.specs.Search.{count}
 use Rattle.checker.specs.Dialect.{most_nodes, most_quantifiers, most_sets, takes_kind, takes_quantifier}
-use Rattle.checker.specs.Table.{Table, node_good, node_taken, bad_node, root_good, quantifier_taken, bad_quantifier, binds_set, one_too_many}
-use Rattle.checker.specs.Check.{Test, verdict, quantifier_tests, node_tests, parts_of, shape_tests, check_as, rest_of, table_at, shape_of}
-use Rattle.checker.proofs.Search.{first_none, first_all, first_le, count_mono, count_yes}
-use Rattle.checker.proofs.Sorts.{inside}
-use Rattle.checker.proofs.Verdict.{plain_as, shaped, all_pass_lem}
+use Rattle.checker.specs.Table.{Table, node_good, bad_node, root_good, bad_quantifier, binds_set, one_too_many}
+use Rattle.checker.specs.Check.{Test, verdict, quantifier_tests, node_tests, shape_tests, check_as, table_at, shape_of}
+use Rattle.checker.proofs.Search.{first_none, first_all, count_mono, count_yes}
+use Rattle.checker.proofs.Verdict.{shape_passes, parts_pass}
 use Rattle.checker.proofs.Bools.{both}
 
 -- A table that obeys the rules, and words that hold one.
@@ -61,7 +60,7 @@ passed (t ∷ ts) ok s e = go t.holds refl e (passed ts ok s)
 
 -- no quantifier is one too many: the sets below any index are within the limit
 few : (limit : ℕ) (t : Table) (n : ℕ) → ((i : ℕ) → i < n → one_too_many limit t i ≡ false) → count (binds_set t) n ≤ limit
-unfolding count one_too_many
+unfolding count
 few limit t zero h = omega arith
 few limit t (suc n) h = go (binds_set t n) refl (few limit t n (λ i l. h i (omega arith)))
   where
@@ -73,7 +72,6 @@ few limit t (suc n) h = go (binds_set t n) refl (few limit t n (λ i l. h i (ome
     go false e l = omega arith
 
 good_table : (d : Dialect) (t : Table) (base width root : ℕ) → Failed (quantifier_tests d t base) → Failed (node_tests d t width root) → GoodTable d t
-unfolding quantifier_tests node_tests bad_quantifier quantifier_taken bad_node node_taken
 good_table d t base width root f g =
     let quantifier : (i : ℕ) → i < t.quantifiers → (takes_quantifier d (t.quantifier i) ≡ true) × (is_some (range_of (t.quantifier i)) ≡ true) =
     λ i h. both _ _ (not-false _ (first_none (bad_quantifier d t) t.quantifiers (ltb-false _ _ f.0) i h)) in
@@ -90,7 +88,6 @@ good_table d t base width root f g =
 
 made_good : (d : Dialect) (ws : List ℤ) (n q : ℕ) → n ≡ nodes_in ws → q ≡ quantifiers_in ws
     → Failed (shape_tests d (length ws) (eqb (word_at ws (length ws - 1)) mark) n q 3) → GoodTable d (table_at ws n q) → Good d ws n q
-unfolding shape_tests
 made_good d ws n q en eq f g =
     let b = both _ _ (not-false _ f.1.1.0) in
     record {
@@ -106,7 +103,7 @@ made_good d ws n q en eq f g =
 
 pub accepted_good : (d : Dialect) (ws : List ℤ) (s : Shape) → check_as d ws ≡ Ok s
     → Good d ws (nodes_in ws) (quantifiers_in ws) × (s ≡ shape_of (table_at ws (nodes_in ws) (quantifiers_in ws)))
-unfolding check_as rest_of parts_of verdict
+unfolding check_as verdict
 accepted_good d ws s e =
     let n : ℕ = nodes_in ws in
     let q : ℕ = quantifiers_in ws in
@@ -118,32 +115,19 @@ accepted_good d ws s e =
 
 -- ---- good, so accepted
 
-under_limit : (limit : ℕ) (t : Table) (n j : ℕ) → count (binds_set t) n ≤ limit → j < n → one_too_many limit t j ≡ false
-unfolding one_too_many
-under_limit limit t n j l h = go (binds_set t j) refl
-  where
-    go : (b : Bool) → binds_set t j ≡ b → (b && eqb (count (binds_set t) j) limit) ≡ false
-    go true e =
-        let s : (j + 1) + (n - (j + 1)) ≡ n = omega arith in
-        let m : count (binds_set t) (j + 1) ≤ count (binds_set t) n = rw s at (count_mono (binds_set t) (j + 1) (n - (j + 1))) in
-        let k : count (binds_set t) j + 1 ≡ count (binds_set t) (j + 1) = count_yes (binds_set t) j e in
-        ne_eqb _ limit (λ f. omega arith)
-    go false e = refl
+pub under_limit : (limit : ℕ) (t : Table) (n j : ℕ) → count (binds_set t) n ≤ limit → j < n → one_too_many limit t j ≡ false
+under_limit limit t n j l h = grind (arith, nat_tests, count_yes, count_mono)
 
 pub good_accepted : (d : Dialect) (ws : List ℤ) (n q : ℕ) → Good d ws n q → check_as d ws ≡ Ok (shape_of (table_at ws n q))
-unfolding table_at bad_quantifier quantifier_taken bad_node node_taken root_good verdict check_as rest_of shape_of
 good_accepted d ws n q g =
     let t : Table = table_at ws n q in
-    let n5 : q ≤ first (one_too_many (most_sets d) t) q = first_all _ q (λ j h. under_limit (most_sets d) t q j g.table.few_sets h) in
-    let o : q ≡ first (one_too_many (most_sets d) t) q = omega (arith, first_le (one_too_many (most_sets d) t) q) in
-    sym
-    (shaped (plain_as d ws) (omega (arith, g.sized)) _ refl g.marked n g.nodes_are (inside 1 (most_nodes d) n g.some_nodes g.few_nodes) q
-    g.quantifiers_are g.few_quantifiers g.sized)
-    ∙ sym
-    (all_pass_lem d t (3 * n) 3 (length ws - 4) []
-    _ refl (first_all (bad_quantifier d t) q (λ j h. passes (g.table.quantifier_taken_lem j h) (g.table.quantifier_known j h)))
-    _ refl n5 (λ ok. refl) _ refl (first_all (bad_node d t) n (λ j h. passes (g.table.kind_taken j h) (g.table.node_good_lem j h)))
-    g.table.root_good_lem (count (binds_set t) q) (root_in ws) (ap (count (binds_set t)) o) refl)
+    rw (← g.nodes_are, ← g.quantifiers_are) at
+    (shape_passes d ws (omega (arith, g.sized)) g.marked (omega (arith, g.some_nodes)) (omega (arith, g.few_nodes)) (omega (arith, g.few_quantifiers)) (omega (arith, g.sized)))
+    ∙ parts_pass d t (3 * n) 3 (length ws - 4)
+    (first_all (bad_quantifier d t) q (λ j h. passes (g.table.quantifier_taken_lem j h) (g.table.quantifier_known j h)))
+    (first_all _ q (λ j h. under_limit (most_sets d) t q j g.table.few_sets h))
+    (first_all (bad_node d t) n (λ j h. passes (g.table.kind_taken j h) (g.table.node_good_lem j h)))
+    g.table.root_good_lem
   where
     passes : {a b : Bool} → a ≡ true → b ≡ true → not (a && b) ≡ false
     passes e f = rw (e, f)

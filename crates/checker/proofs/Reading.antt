@@ -20,7 +20,7 @@ use Rattle.checker.specs.Words.{word, word_at, tab, root_in, nodes_in, quantifie
 use Rattle.checker.specs.Sorts.{sort, is_set_q, Fits, AllFit, WellSorted, sets}
 use Rattle.checker.specs.Search.{count}
 use Rattle.checker.specs.Dialect.{takes_kind, takes_quantifier}
-use Rattle.checker.specs.Table.{Table, field_good, obeys, node_good, child_sort, root_good, binds_set}
+use Rattle.checker.specs.Table.{Table, field_good, obeys, binds_set}
 use Rattle.checker.specs.Check.{table_at, kind_in, quantifier_kind}
 use Rattle.checker.specs.Accepted.{KindsTaken, QuantifiersTaken}
 use Rattle.checker.proofs.Tab.{tab-length, tab_at, tab-snoc}
@@ -81,7 +81,7 @@ module _ (d : Dialect) (ws : List ℤ) (good : Good d ws (nodes_in ws) (quantifi
   q_small = omega (arith, good.few_quantifiers, quantifiers_most d)
 
   known : (i : ℕ) → i < q → is_some (range_of (number (word ws (3 * n + i)))) ≡ true
-  unfolding table_at word_at
+  unfolding word_at
   known i h = good.table.quantifier_known i h
 
   range_at : (i : ℕ) → i < length qs → range_of (quantifier_kind ws n i) ≡ Some (range (is_set_q (get_or qs i (int_q true))))
@@ -94,7 +94,7 @@ module _ (d : Dialect) (ws : List ℤ) (good : Good d ws (nodes_in ws) (quantifi
 
   served : (i : ℕ) (row : Option Row) → obeys (table_at ws n q) i row ≡ true
       → Obeys qs (tab i (node_at ws)) (kind_in ws) (quantifier_kind ws n) row (word ws (3 * i + 1)) (word ws (3 * i + 2))
-  unfolding field_good table_at word_at
+  unfolding word_at
   served i None e = absurd (false≢true e)
   served i (Some row) e =
       let t : Table = table_at ws n q in
@@ -105,7 +105,7 @@ module _ (d : Dialect) (ws : List ℤ) (good : Good d ws (nodes_in ws) (quantifi
 
   -- node i, where the sorts of those before it are known
   node_at_lem : (i : ℕ) → i < n → SortsBelow i → NodeIs qs (tab i (node_at ws)) (word ws (3 * i)) (word ws (3 * i + 1)) (word ws (3 * i + 2)) (node_at ws i)
-  unfolding node_good table_at word_at
+  unfolding word_at
   node_at_lem i l sorts =
       node_is qs (tab i (node_at ws)) (kind_in ws) (quantifier_kind ws n)
       (omega (arith, n_small, tab-length i (node_at ws))) (omega (arith, q_small, tab-length q (quantifier_at ws n)))
@@ -134,7 +134,6 @@ module _ (d : Dialect) (ws : List ℤ) (good : Good d ws (nodes_in ws) (quantifi
   )
 
   root_good_lem : (root_in ws < n) × (sort (node_at ws (root_in ws)) ≡ Some AFormula)
-  unfolding root_good child_sort table_at
   root_good_lem =
       let u = looked (root_in ws) n (sort_of (kind_in ws (root_in ws))) None (is_sort AFormula) refl good.table.root_good_lem in
       (u.0, sorts_upto n (omega arith) (root_in ws) u.0 ∙ sort_is AFormula _ u.1)
@@ -214,7 +213,7 @@ module _ (d : Dialect) (ws : List ℤ) (good : Good d ws (nodes_in ws) (quantifi
       nodes_all = simp zero-add at (node_words_lem n 0 (omega arith))
 
   pub sets_counted : count (binds_set (table_at ws n q)) q ≡ sets (claim_of ws).quantifiers
-  unfolding claim_of binds_set table_at
+  unfolding claim_of
   sets_counted =
       ap (count (binds_set (table_at ws n q))) (sym (tab-length q (quantifier_at ws n)))
       ∙ counted (binds_set (table_at ws n q)) qs (λ i h. ap (is_range Sets) (range_at i h) ∙ over_range (is_set_q (get_or qs i (int_q true))))
@@ -222,13 +221,13 @@ module _ (d : Dialect) (ws : List ℤ) (good : Good d ws (nodes_in ws) (quantifi
   -- ---- the kinds
 
   pub kinds_taken : KindsTaken d (claim_of ws).nodes
-  unfolding claim_of table_at word_at node_words number
+  unfolding claim_of word_at node_words number
   kinds_taken =
       all_tab (λ x. takes_kind d (fields_of x).kind) n (node_at ws)
       (λ i h. ap (λ l. takes_kind d (number (word l 0))) (node_good_lem i h).words ∙ good.table.kind_taken i h)
 
   pub quantifiers_taken : QuantifiersTaken d (claim_of ws).quantifiers
-  unfolding claim_of table_at word_at
+  unfolding claim_of word_at
   quantifiers_taken =
       all_tab (λ x. takes_quantifier d (number (quantifier_word x))) q (quantifier_at ws n)
       (λ i h. ap (λ z. takes_quantifier d (number z)) (quantifier_back (word ws (3 * n + i)) (known i h)) ∙ good.table.quantifier_taken_lem i h)

@@ -112,7 +112,7 @@ module _ (qs : List Quantifier) (done : List Node) (kind quantifier : ℕ → �
     -- ---- from words to the node
 
     unused : (z : ℤ) → Serves Unused z → z ≡ pos 0
-    unfolding serves number
+    unfolding number
     unused (pos v) e = ap pos (eqb-true v 0 e)
     unused (negsuc v) e = absurd (false≢true e)
 
@@ -127,13 +127,11 @@ module _ (qs : List Quantifier) (done : List Node) (kind quantifier : ℕ → �
       quantifier_is : Binds b qs at
 
     child : (s : Sort) (z : ℤ) → Serves (Child s) z → ChildIs s z
-    unfolding serves child_sort
     child s z e =
         let u = looked (number z) (length done) (sort_of (kind (number z))) None (is_sort s) (none_is s) e in
         record { at = number z; is = below z (length done) small u.0; node = (u.0, sorts (number z) u.0 ∙ sort_is s _ u.1) }
 
     name : (b : Bool) (z : ℤ) → Serves (Name (range b)) z → NameIs b z
-    unfolding serves name_range
     name b z e =
         let u = looked (number z) (length qs) (range_of (quantifier (number z))) None (is_range (range b)) (no_range_is b) e in
         record {
@@ -193,11 +191,9 @@ module _ (qs : List Quantifier) (done : List Node) (kind quantifier : ℕ → �
     -- ---- from the node to its words
 
     served_child : (s : Sort) (v : ℕ) → Is s done v → is_sort s (child_sort kind (length done) v) ≡ true
-    unfolding child_sort
     served_child s v (h, e) = rw (lt-ltb v (length done) h) (ap (is_sort s) (sym (sorts v h) ∙ e) ∙ is_its_sort s)
 
     served_name : (b : Bool) (v : ℕ) → Binds b qs v → is_range (range b) (name_range quantifier (length qs) v) ≡ true
-    unfolding name_range
     served_name b v (h, e) =
         rw (lt-ltb v (length qs) h) (ap (is_range (range b)) (binds v h ∙ ap (λ c. Some (range c)) e) ∙ is_its_range b)
 
@@ -205,7 +201,7 @@ module _ (qs : List Quantifier) (done : List Node) (kind quantifier : ℕ → �
     Served n = Obeys (row_of (fields_of n).kind) (fields_of n).a (fields_of n).b
 
     pub fits_served : (n : Node) → Fits qs done n → Served n
-    unfolding row_of serves number
+    unfolding row_of number
     fits_served (set_var q) f = (served_name true q f, refl)
     fits_served empty f = (refl, refl)
     fits_served whole f = (refl, refl)

@@ -2,11 +2,14 @@
 use mathlib.Core.Path.{◌≡◌, refl, sym, ◌∙◌, ap}
 use mathlib.Core.Bool.{Bool, true, false, cond}
 use Prim.Native.Nat.{ℕ, zero, suc, ◌+◌, ◌-◌, ◌≤◌, ◌<◌}
-use native.Mathlib.Nat.{add-zero, add-suc}
+use native.Mathlib.Nat.{zero-add, add-suc}
 use native.Mathlib.Numerals.{add-one}
-use native.Mathlib.Decide.{dec_lt}
 use native.Mathlib.Omega.{arith}
-use Rattle.checker.specs.Search.{first_from, first, count}
+use lib.Dec.{ltb}
+use Rattle.std.specs.Prelude.{Some, None}
+use Rattle.std.specs.List.{find, range_with_len}
+use Rattle.std.proofs.lemmas.Bool.Decides.{nat_tests}
+use Rattle.checker.specs.Search.{first_from, first, found, count}
 
 -- `first_from`, one index on, where k more are left
 hit : (p : ℕ → Bool) (i k : ℕ) → p i ≡ true → first_from p i (suc k) ≡ i
@@ -44,8 +47,15 @@ module _ (p : ℕ → Bool) (n : ℕ) where
     pub upto_hit : i < n → p i ≡ true → i ≡ first p n
     upto_hit h e = sym (u.same ∙ ap (first_from p i) (left h) ∙ hit p i (n - (i + 1)) e)
 
+    pub upto_all : n ≤ i → i ≡ n
+    upto_all h = omega (arith, u.low)
+
     pub upto_end : n ≤ i → i ≡ first p n
     upto_end h = sym (u.same ∙ ap (first_from p i) (omega arith) ∙ none_left p i)
+
+pub count_none : (p : ℕ → Bool) → count p 0 ≡ 0
+unfolding count
+count_none p = refl
 
 -- counting one index on
 pub count_yes : (p : ℕ → Bool) (i : ℕ) → p i ≡ true → count p i + 1 ≡ count p (i + 1)
@@ -59,40 +69,18 @@ count_no p i e = rw (add-one i, e) (omega arith)
 pub count_le : (p : ℕ → Bool) (n : ℕ) → count p n ≤ n
 unfolding count
 count_le p zero = omega arith
-count_le p (suc n) = go (p n) (count_le p n)
-  where
-    go : (b : Bool) → count p n ≤ n → count p n + cond b 1 0 ≤ suc n
-    go true h = omega arith
-    go false h = omega arith
+count_le p (suc n) = grind (arith, nat_tests, count_le p n)
 
 -- What the first index is.
 from_le : (p : ℕ → Bool) (i k : ℕ) → first_from p i k ≤ i + k
 unfolding first_from
 from_le p i zero = omega arith
-from_le p i (suc k) = go (p i) (from_le p (suc i) k)
-  where
-    go : (b : Bool) → first_from p (suc i) k ≤ suc i + k → cond b i (first_from p (suc i) k) ≤ i + suc k
-    go true h = omega arith
-    go false h = omega arith
+from_le p i (suc k) = grind (arith, nat_tests, from_le p (suc i) k)
 
 from_miss : (p : ℕ → Bool) (i k j : ℕ) → i ≤ j → j < first_from p i k → p j ≡ false
 unfolding first_from
 from_miss p i zero j h l = absurd (omega arith)
-from_miss p i (suc k) j h l = go (p i) refl l (dec_lt i j) (λ g. from_miss p (suc i) k j g)
-  where
-    go : (b : Bool) → p i ≡ b → j < cond b i (first_from p (suc i) k) → Dec (i < j) → (suc i ≤ j → j < first_from p (suc i) k → p j ≡ false) → p j ≡ false
-    go true e m d r = absurd (omega arith)
-    go false e m (yes g) r = r g m
-    go false e m (no g) r = let s : j ≡ i = omega arith in rw s e
-
-from_hit : (p : ℕ → Bool) (i k : ℕ) → first_from p i k < i + k → p (first_from p i k) ≡ true
-unfolding first_from
-from_hit p i zero h = absurd (omega arith)
-from_hit p i (suc k) h = go (p i) refl h (λ g. from_hit p (suc i) k g)
-  where
-    go : (b : Bool) → p i ≡ b → cond b i (first_from p (suc i) k) < i + suc k → (first_from p (suc i) k < suc i + k → p (first_from p (suc i) k) ≡ true) → p (cond b i (first_from p (suc i) k)) ≡ true
-    go true e m r = e
-    go false e m r = r (omega arith)
+from_miss p i (suc k) j h l = grind (arith, nat_tests, from_miss p (suc i) k j)
 
 module _ (p : ℕ → Bool) (n : ℕ) where
   pub first_le : first p n ≤ n
@@ -103,13 +91,26 @@ module _ (p : ℕ → Bool) (n : ℕ) where
   unfolding first
   first_miss j h = from_miss p 0 n j (omega arith) h
 
-  pub first_hit : first p n < n → p (first p n) ≡ true
-  unfolding first
-  first_hit h = from_hit p 0 n (omega arith)
-
   -- none passes
   pub first_none : n ≤ first p n → (j : ℕ) → j < n → p j ≡ false
   first_none h j l = first_miss j (omega arith)
+
+-- the first as an option
+found_from : (p : ℕ → Bool) (i k : ℕ) → find p (range_with_len i k) ≡ cond (ltb (first_from p i k) (i + k)) (Some (first_from p i k)) None
+unfolding first_from
+found_from p i zero = grind (arith, nat_tests)
+found_from p i (suc k) = grind (arith, nat_tests, found_from p (suc i) k)
+
+module _ (p : ℕ → Bool) (n : ℕ) where
+  found_first : found p n ≡ cond (ltb (first p n) n) (Some (first p n)) None
+  unfolding first
+  found_first = rw zero-add at (found_from p 0 n)
+
+  pub found_some : {i : ℕ} → Some i ≡ found p n → (i ≡ first p n) × (i < n)
+  found_some e = grind (arith, nat_tests, found_first)
+
+  pub found_none : None ≡ found p n → n ≤ first p n
+  found_none e = grind (arith, nat_tests, found_first)
 
 -- where none passes, the first is n
 from_all : (p : ℕ → Bool) (i k : ℕ) → ((j : ℕ) → i ≤ j → j < i + k → p j ≡ false) → first_from p i k ≡ i + k
@@ -124,11 +125,13 @@ unfolding first
 first_all p n h = omega (arith, from_all p 0 n (λ j l m. h j (omega arith)))
 
 -- counting never falls
-pub count_mono : (p : ℕ → Bool) (i k : ℕ) → count p i ≤ count p (i + k)
+count_more : (p : ℕ → Bool) (i k : ℕ) → count p i ≤ count p (i + k)
 unfolding count
-count_mono p i zero = rw (add-zero i) (omega arith)
-count_mono p i (suc k) = rw (add-suc i k) (go (p (i + k)) (count_mono p i k))
-  where
-    go : (b : Bool) → count p i ≤ count p (i + k) → count p i ≤ count p (i + k) + cond b 1 0
-    go true h = omega arith
-    go false h = omega arith
+count_more p i zero = grind arith
+count_more p i (suc k) = rw (add-suc i k) (grind (arith, nat_tests, count_more p i k))
+
+pub count_mono : (p : ℕ → Bool) (i n : ℕ) → i ≤ n → count p i ≤ count p n
+count_mono p i n h = let e : i + (n - i) ≡ n = omega arith in rw e at (count_more p i (n - i))
+
+-- for loops that search and count
+pub ruleset searches = (nat_tests, upto_none, upto_more, upto_hit, upto_all, upto_end, count_none, count_yes, count_no, count_le)

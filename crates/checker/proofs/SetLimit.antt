@@ -1,25 +1,26 @@
 -- The limit of sets is felt by no claim within it (#113): a table with no more set quantifiers than `limit` is answered as a checker with that
 -- limit answers it, be the limit of the day higher. Of the check of claims over sets the limit stands in test 5 alone; and the definitions of what
 -- an accepted claim becomes, `emission` and `ruling`, take any number of sets. Assumes nothing.
-use Rattle.std.proofs.Common.{Result, Ok}
-use Rattle.checker.specs.declared.Shape.{Shape}
-use Rattle.checker.specs.declared.refusals.Refusal.{Refusal}
-use Rattle.checker.specs.declared.refusals.Refusal.TheVariants as refused
-use mathlib.Core.Path.{◌≡◌, refl, sym, ◌∙◌, subst}
-use mathlib.Core.Bool.{Bool, true, false, ◌&&◌}
+use mathlib.Core.Path.{◌≡◌, refl, sym, ◌∙◌}
+use mathlib.Core.Bool.{false}
 use mathlib.Core.List.{List, [], ◌∷◌}
-use Prim.Native.Nat.{ℕ, ◌+◌, ◌*◌, ◌-◌, ◌≤◌, ◌<◌}
+use Prim.Native.Nat.{ℕ, ◌+◌, ◌*◌, ◌-◌, ◌≤◌}
 use native.Mathlib.Omega.{arith}
 use lib.Dec.{ltb, eqb}
 use lib.IntN.{ℤ}
 use lib.ListN.{length}
-use borrow.Author.Tests.{le-ltb, ne_eqb}
+use borrow.Author.Tests.{le-ltb}
+use Rattle.std.specs.Prelude.{Result, Ok}
+use Rattle.checker.specs.declared.Shape.{Shape}
+use Rattle.checker.specs.declared.refusals.Refusal.{Refusal}
+use Rattle.checker.specs.declared.refusals.Refusal.TheVariants as refused
 use Rattle.checker.specs.declared.Dialect.TheVariants.{SetClaims}
 use Rattle.checker.specs.Search.{first, count}
 use Rattle.checker.specs.Words.{word_at, nodes_in, quantifiers_in, mark}
 use Rattle.checker.specs.Table.{Table, bad_quantifier, binds_set, one_too_many}
-use Rattle.checker.specs.Check.{max_sets, test, verdict, shape_tests, quantifier_tests, node_tests, shape_of, parts_of, table_at, rest_of, check_as, check_of}
-use Rattle.checker.proofs.Search.{count_yes, count_mono, first_all}
+use Rattle.checker.specs.Check.{max_sets, test, verdict, shape_tests, node_tests, shape_of, table_at, check_as, check_of}
+use Rattle.checker.proofs.Search.{first_all}
+use Rattle.checker.proofs.Passed.{under_limit}
 
 -- ---- the check with any limit of sets
 
@@ -51,33 +52,18 @@ check_up_to limit ws =
     t = table_in ws
 
 pub with_the_limit : (ws : List ℤ) → check_up_to max_sets ws ≡ check_of ws
-unfolding check_up_to check_of check_as rest_of parts_of verdict quantifier_tests table_at
+unfolding check_up_to check_of check_as verdict
 with_the_limit ws = refl
 
 -- ---- no claim within a limit feels it
 
--- one that passes below n is counted among those below n
-counted : (p : ℕ → Bool) (i n : ℕ) → i < n → p i ≡ true → count p i < count p n
-counted p i n h e =
-    let up_to : i + 1 + (n - (i + 1)) ≡ n = omega arith in
-    omega (arith, count_yes p i e, subst (λ (m : ℕ). count p (i + 1) ≤ count p m) up_to (count_mono p (i + 1) (n - (i + 1))))
-
--- where there are no more than `limit`, none is one too many
 module _ (t : Table) (limit : ℕ) (few : count (binds_set t) t.quantifiers ≤ limit) where
-  none_over : (i : ℕ) → i < t.quantifiers → one_too_many limit t i ≡ false
-  unfolding one_too_many
-  none_over i h = go (binds_set t i) refl
-    where
-      go : (b : Bool) → binds_set t i ≡ b → (b && eqb (count (binds_set t) i) limit) ≡ false
-      go false e = refl
-      go true e = ne_eqb (count (binds_set t) i) limit (λ x. absurd (omega (arith, counted (binds_set t) i t.quantifiers h e)))
-
   test_5_passes : ltb (first (one_too_many limit t) t.quantifiers) t.quantifiers ≡ false
-  test_5_passes = le-ltb _ _ (first_all (one_too_many limit t) t.quantifiers none_over)
+  test_5_passes = le-ltb _ _ (first_all (one_too_many limit t) t.quantifiers (λ i h. under_limit limit t t.quantifiers i few h))
 
 module _ (ws : List ℤ) where
   pub alike : (limit higher : ℕ) → sets_in ws ≤ limit → limit ≤ higher → check_up_to limit ws ≡ check_up_to higher ws
-  unfolding check_up_to sets_in verdict table_at
+  unfolding check_up_to sets_in verdict
   alike limit higher few up = rw (test_5_passes (table_in ws) limit few, test_5_passes (table_in ws) higher (omega arith)) refl
 
   -- with six sets or fewer, what a limit of six gave

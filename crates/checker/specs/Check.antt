@@ -1,7 +1,7 @@
 -- What the checker answers (01, "Refusal numbers, in the order they are tested", 1 to 7): an ordered list of tests, of which the first that holds
 -- decides. The tests are over a dialect, a table of numbers, the words a node takes and the places where things stand, whatever the words are.
 -- Assumes nothing.
-use Rattle.std.specs.Prelude.{Bool, cond, not, List, [], ◌∷◌, ℕ, ◌+◌, ◌*◌, ◌-◌, ◌≤◌, ltb, eqb, ℤ, length, Result, Ok, Err}
+use Rattle.std.specs.Prelude.{Bool, cond, not, List, [], ◌∷◌, ℕ, ◌+◌, ◌*◌, ◌-◌, ltb, eqb, ℤ, length, Result, Ok, Err}
 use Rattle.checker.specs.declared.refusals.Refusal.TheVariants as refused
 use Rattle.checker.specs.declared.Dialect.{Dialect}
 use Rattle.checker.specs.declared.Dialect.TheVariants.{SetClaims}
@@ -39,7 +39,7 @@ verdict [] ok = ok
 verdict (t ∷ ts) ok = cond t.holds (Err t.gives) (verdict ts ok)
 
 -- 1 to 3, of l words whose last is right where `marked`, for n nodes of `width` words each and q quantifiers
-unfoldable pub shape_tests : Dialect → ℕ → Bool → ℕ → ℕ → ℕ → List Test
+abbrev pub shape_tests : Dialect → ℕ → Bool → ℕ → ℕ → ℕ → List Test
 shape_tests d l marked n q width =
     test (ltb l 4) refused.Unmarked
     ∷ test (not marked) refused.Unmarked
@@ -49,29 +49,29 @@ shape_tests d l marked n q width =
     ∷ []
 
 -- 4 and 5; the quantifiers stand from word `base` on
-unfoldable pub quantifier_tests : Dialect → Table → ℕ → List Test
+abbrev pub quantifier_tests : Dialect → Table → ℕ → List Test
 quantifier_tests d t base =
     test (ltb (first (bad_quantifier d t) t.quantifiers) t.quantifiers) (refused.UnknownQuantifier (base + first (bad_quantifier d t) t.quantifiers))
     ∷ test (ltb (first (one_too_many (most_sets d) t) t.quantifiers) t.quantifiers) (refused.TooManySets (base + first (one_too_many (most_sets d) t) t.quantifiers))
     ∷ []
 
 -- 6, of node i
-unfoldable pub node_refusal : ℕ → ℕ → Refusal
+abbrev pub node_refusal : ℕ → ℕ → Refusal
 node_refusal i width = refused.BadNode (width * i)
 
 -- 6 and 7; a node is `width` words, and the root's number stands at word `rootPlace`
-unfoldable pub node_tests : Dialect → Table → ℕ → ℕ → List Test
+abbrev pub node_tests : Dialect → Table → ℕ → ℕ → List Test
 node_tests d t width rootPlace =
     record { holds = ltb (first (bad_node d t) t.nodes) t.nodes; gives = node_refusal (first (bad_node d t) t.nodes) width }
     ∷ test (not (root_good t)) (refused.BadRoot rootPlace)
     ∷ []
 
 -- what is said of an accepted table
-unfoldable pub shape_of : Table → Shape
+abbrev pub shape_of : Table → Shape
 shape_of t = record { nodes = t.nodes; quantifiers = t.quantifiers; sets = count (binds_set t) t.quantifiers; root = t.root }
 
 -- 4 to 7, and then acceptance. Between 5 and 6 another stored form may make further tests, `extra`; the words of 01 have none.
-unfoldable pub parts_of : Dialect → Table → ℕ → ℕ → ℕ → List Test → Result Shape Refusal
+abbrev pub parts_of : Dialect → Table → ℕ → ℕ → ℕ → List Test → Result Shape Refusal
 parts_of d t base width rootPlace extra =
     verdict (quantifier_tests d t base) (verdict extra (verdict (node_tests d t width rootPlace) (Ok (shape_of t))))
 
@@ -86,7 +86,7 @@ abbrev pub quantifier_kind : List ℤ → ℕ → ℕ → ℕ
 quantifier_kind ws n i = word_at ws (3 * n + i)
 
 -- the table of n nodes and q quantifiers in ws
-unfoldable pub table_at : List ℤ → ℕ → ℕ → Table
+abbrev pub table_at : List ℤ → ℕ → ℕ → Table
 table_at ws n q =
     record {
       nodes = n;
@@ -99,7 +99,7 @@ table_at ws n q =
     }
 
 -- what follows 1 to 3
-unfoldable pub rest_of : Dialect → List ℤ → ℕ → ℕ → Result Shape Refusal
+abbrev pub rest_of : Dialect → List ℤ → ℕ → ℕ → Result Shape Refusal
 rest_of d ws n q = parts_of d (table_at ws n q) (3 * n) 3 (length ws - 4) []
 
 -- What the checker answers for the words ws, in a dialect.
@@ -112,7 +112,3 @@ check_as d ws =
 unfoldable pub check_of : List ℤ → Result Shape Refusal
 unfolding check_as
 check_of ws = check_as SetClaims ws
-
--- What the functions below `check_as` ask of the words: nodes, quantifiers and trailer are there.
-pub record Room (ws : List ℤ) (n q : ℕ) : Type 0 where
-  pub room : 3 * n + q + 4 ≤ length ws

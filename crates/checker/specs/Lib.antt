@@ -9,5 +9,6 @@ pub mod Search
 pub mod Dialect
 pub mod Table
 pub mod Check
+pub mod Stored
 pub mod Refusals
 pub mod Accepted

@@ -1,59 +1,58 @@
 // The dialects: how much a table of each may hold, and which kinds it takes.
 ghost use Rattle.std.specs.Prelude.{◌≡◌};
-ghost use Rattle.checker.specs.Dialect.{most_nodes, most_quantifiers, most_sets, speaks_of_numbers, takes_kind, takes_quantifier};
 
+use crate::kinds::range_of;
 use crate::names::{
     MAX_EMITTED_NODES, MAX_EMITTED_QUANTIFIERS, MAX_NODES, MAX_QUANTIFIERS, MAX_SETS,
 };
 use crate::{Dialect, Range};
 
-pub fn most_nodes(dialect: Dialect) -> usize
-    ensures { result ≡ most_nodes dialect }
-{
-    match dialect {
-        Dialect::SetClaims => MAX_NODES,
-        Dialect::Emitted => MAX_EMITTED_NODES,
+#[derive(Clone, Copy)]
+pub struct Limits {
+    pub nodes: usize,
+    pub quantifiers: usize,
+    pub sets: usize,
+}
+
+impl Dialect {
+    ghost use Rattle.checker.specs.Dialect.{most_nodes, most_quantifiers, most_sets, takes_kind};
+    ghost use Rattle.checker.specs.Table.{quantifier_taken};
+
+    pub(crate) fn limits(self) -> Limits
+        ensures nodes { result.nodes ≡ most_nodes self }
+        ensures quantifiers { result.quantifiers ≡ most_quantifiers self }
+        ensures sets { result.sets ≡ most_sets self }
+    {
+        match self {
+            Dialect::SetClaims => Limits {
+                nodes: MAX_NODES,
+                quantifiers: MAX_QUANTIFIERS,
+                sets: MAX_SETS,
+            },
+            Dialect::Emitted => Limits {
+                nodes: MAX_EMITTED_NODES,
+                quantifiers: MAX_EMITTED_QUANTIFIERS,
+                sets: 0,
+            },
+        }
     }
-}
 
-pub fn most_quantifiers(dialect: Dialect) -> usize
-    ensures { result ≡ most_quantifiers dialect }
-{
-    match dialect {
-        Dialect::SetClaims => MAX_QUANTIFIERS,
-        Dialect::Emitted => MAX_EMITTED_QUANTIFIERS,
+    pub(crate) fn takes_kind(self, kind: usize) -> bool
+        ensures { result ≡ takes_kind self kind }
+    {
+        match self {
+            Dialect::SetClaims => true,
+            Dialect::Emitted => matches!(kind, 10..=15 | 20..=22 | 25..=27),
+        }
     }
-}
 
-pub fn most_sets(dialect: Dialect) -> usize
-    ensures { result ≡ most_sets dialect }
-{
-    match dialect {
-        Dialect::SetClaims => MAX_SETS,
-        Dialect::Emitted => 0,
-    }
-}
-
-fn speaks_of_numbers(kind: usize) -> bool
-    ensures { result ≡ speaks_of_numbers kind }
-{
-    matches!(kind, 10..=15 | 20..=22 | 25..=27)
-}
-
-pub fn takes_kind(dialect: Dialect, kind: usize) -> bool
-    ensures { result ≡ takes_kind dialect kind }
-{
-    match dialect {
-        Dialect::SetClaims => true,
-        Dialect::Emitted => speaks_of_numbers(kind),
-    }
-}
-
-pub fn takes_quantifier(dialect: Dialect, kind: usize) -> bool
-    ensures { result ≡ takes_quantifier dialect kind }
-{
-    match dialect {
-        Dialect::SetClaims => true,
-        Dialect::Emitted => crate::kinds::range_of(kind) == Some(Range::Numbers),
+    // Whether quantifiers of this kind are taken, and it is known.
+    pub(crate) fn takes_quantifier(self, kind: usize) -> bool
+        ensures { result ≡ quantifier_taken self kind }
+    {
+        match self {
+            Dialect::SetClaims => range_of(kind).is_some(),
+            Dialect::Emitted => range_of(kind) == Some(Range::Numbers),
+        }
     }
 }

@@ -2,18 +2,18 @@
 #![tactic(auto)]
 
 ghost use Rattle.std.specs.Prelude.{◌≡◌, [], ◌+◌, ◌*◌, ◌-◌, length};
-ghost use Rattle.checker.specs.Kinds.{number};
 ghost use Rattle.checker.specs.Words.{word_at};
-ghost use Rattle.checker.specs.Check.{check_as, check_of, table_at, parts_of, Room};
+ghost use Rattle.checker.specs.Stored.{table_of};
+ghost use Rattle.checker.specs.Check.{check_as, check_of, parts_of};
 
 mod dialects; // the limits of each dialect, and the kinds that it takes
 mod kinds; // what a kind of node or quantifier is and requires
 pub mod names; // the limits by name
-mod nodes; // the check of a node
-mod quantifiers; // the checks of the quantifiers
 mod refusals; // what a refusal says
+mod table; // the checks of the quantifiers and the nodes
 
 pub use refusals::Refusal;
+use table::StoredTable;
 
 const MARK: usize = 2005;
 
@@ -66,86 +66,71 @@ pub struct Row {
     pub b: Need,
 }
 
-fn number_of(w: i32) -> usize
-    ensures { result ≡ number w }
-{
-    if w < 0 {
-        return NO_NUMBER;
-    }
-    w as usize
-}
-
 // A word as a number, 0 past the end.
+#[tactic(auto, unfolding(crate::specs::Words::word_at, crate::specs::Kinds::number))]
 pub fn word(words: &[i32], at: usize) -> usize
     ensures { result ≡ word_at words.now at }
 {
-    if at < words.len() {
-        return number_of(words[at]);
-    }
-    0
+    words
+        .get(at)
+        .map_or(0, |w| usize::try_from(*w).unwrap_or(NO_NUMBER))
 }
 
-// Refusals 4 to 7, of a table whose counts and length are right.
-fn check_parts(
-    words: &[i32],
-    dialect: Dialect,
-    nodes: usize,
-    quantifiers: usize,
-) -> Result<Shape, Refusal>
-    requires { Room words.now nodes quantifiers }
-    ensures { result ≡ parts_of dialect (table_at words.now nodes quantifiers) (3 * nodes) 3 (length words.now - 4) [] }
+// Refusals 4 to 7.
+#[tactic(auto, using(crate::proofs::Verdict::in_order), unfolding(crate::specs::Check::verdict))]
+fn check_parts(table: &StoredTable) -> Result<Shape, Refusal>
+    ensures { result ≡ parts_of table.now.dialect (table_of table.now) (3 * table.now.nodes) 3 (length table.now.words.now - 4) [] }
 {
-    let bad = quantifiers::first_bad_quantifier(words, dialect, nodes, quantifiers);
-    if bad < quantifiers {
-        return Err(Refusal::UnknownQuantifier(3 * nodes + bad));
+    if let Some(bad) = table.first_bad_quantifier() {
+        return Err(Refusal::UnknownQuantifier(3 * table.nodes + bad));
     }
-    let sets = quantifiers::sets_of(words, nodes, quantifiers, dialects::most_sets(dialect));
-    let over = sets.over;
-    if over < quantifiers {
-        return Err(Refusal::TooManySets(3 * nodes + over));
-    }
-    let broken = nodes::first_bad_node(words, dialect, nodes, quantifiers);
-    if broken < nodes {
+    let sets = match table.sets() {
+        Ok(sets) => sets,
+        Err(over) => return Err(Refusal::TooManySets(3 * table.nodes + over)),
+    };
+    if let Some(broken) = table.first_bad_node() {
         return Err(Refusal::BadNode(3 * broken));
     }
-    if !nodes::root_good(words, nodes, quantifiers) {
-        return Err(Refusal::BadRoot(words.len() - 4));
+    if !table.root_good() {
+        return Err(Refusal::BadRoot(table.words.len() - 4));
     }
     Ok(Shape {
-        nodes,
-        quantifiers,
-        sets: sets.seen,
-        root: word(words, words.len() - 4),
+        nodes: table.nodes,
+        quantifiers: table.quantifiers,
+        sets,
+        root: table.root(),
     })
 }
 
+#[tactic(auto, using(crate::proofs::Verdict::in_order), unfolding(crate::specs::Check::check_as, crate::specs::Check::verdict))]
 pub fn check_as(words: &[i32], dialect: Dialect) -> Result<Shape, Refusal>
     ensures { result ≡ check_as dialect words.now }
 {
     let length = words.len();
-    if length < 4 {
-        return Err(Refusal::Unmarked);
-    }
-    if word(words, length - 1) != MARK {
+    if length < 4 || word(words, length - 1) != MARK {
         return Err(Refusal::Unmarked);
     }
     let nodes = word(words, length - 3);
-    if nodes < 1 {
-        return Err(Refusal::Count(length - 3));
-    }
-    if dialects::most_nodes(dialect) < nodes {
+    let limits = dialect.limits();
+    if nodes < 1 || limits.nodes < nodes {
         return Err(Refusal::Count(length - 3));
     }
     let quantifiers = word(words, length - 2);
-    if dialects::most_quantifiers(dialect) < quantifiers {
+    if limits.quantifiers < quantifiers {
         return Err(Refusal::Count(length - 2));
     }
     if length != 3 * nodes + quantifiers + 4 {
         return Err(Refusal::Length);
     }
-    check_parts(words, dialect, nodes, quantifiers)
+    check_parts(&StoredTable {
+        words,
+        dialect,
+        nodes,
+        quantifiers,
+    })
 }
 
+#[tactic(auto, unfolding(crate::specs::Check::check_of))]
 pub fn check(words: &[i32]) -> Result<Shape, Refusal>
     ensures { result ≡ check_of words.now }
 {

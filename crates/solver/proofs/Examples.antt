@@ -48,5 +48,5 @@ AllRight [] = Unit {0}
 AllRight (e ∷ es) = (written_of e.words e.room ≡ e.answer) × AllRight es
 
 pub examples_right : AllRight examples
-unfolding written_of answer fitted text_of commands_text command_text commands asserted sentence_of closed lets sentence_text guard_line quantify_line let_line expr_text name_text decimal decimal_of claim_of node_of quantifier_of check_as rest_of table_at parts_of shape_of node_tests node_refusal quantifier_tests shape_tests verdict one_too_many binds_set bad_quantifier quantifier_taken root_good bad_node node_taken node_good field_good serves name_range child_sort count first_from first word_at range_of sort_of row_of number
+unfolding written_of answer fitted text_of commands_text command_text commands asserted sentence_of closed lets sentence_text guard_line quantify_line let_line expr_text name_text decimal decimal_of claim_of node_of quantifier_of check_as verdict count first_from first word_at range_of sort_of row_of number
 examples_right = refl ▸ refl ▸ refl ▸ refl ▸ refl ▸ refl ▸ tt
