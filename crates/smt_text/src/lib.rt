@@ -28,7 +28,7 @@ fn smt_words(words: &[i32], out: &mut [u8; 393216]) -> usize
     let mut emission = [0i32; 16384];
     match reducer::reduce(words, &mut emission) {
         Ok(n) => put_text(&emission[..n], out),
-        Err(r) => text::put_refusal(out, r),
+        Err(refusal) => text::put_refusal(out, refusal),
     }
 }
 
