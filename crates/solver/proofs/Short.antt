@@ -24,24 +24,17 @@ use Rattle.sentence.specs.Sentences.{whole_number, expr_of}
 use Rattle.sentence.specs.Text.{name_text, expr_text, quantify_line, text_of}
 use Rattle.sentence.specs.Lines.{node_line, node_lines, quantifier_line, quantifier_lines, brackets}
 use Rattle.solver.specs.Pieces.{one_text, two_text, pair_text, count_text, multiple_text, divided_text}
-use Rattle.solver.specs.Laid.{Laid, longest_line, root_line}
+use Rattle.solver.specs.Laid.{Laid, Ten, longest_line, root_line}
 use Rattle.solver.proofs.Entries.{by_entry}
 use Rattle.solver.proofs.Forms.{multiple_below, multiple_from_0, divided_0, divided_below, divided_above}
 use Rattle.solver.proofs.Parts.{line_parts, count_some, count_all}
 use Rattle.solver.proofs.Whole.{text_length}
-
--- at most ten digits
-abbrev Ten : ℕ → Type 0
-Ten n = n < 10 ^ 10
 
 digits : (n : ℕ) → Ten n → length (decimal n) ≤ 10
 digits n h = decimal-length 9 n h
 
 one_short : (s : List ℕ) (n : ℕ) (t : List ℕ) → Ten n → length (one_text s n t) ≤ length s + 10 + length t
 one_short s n t h = simp length-append (omega (arith, digits n h))
-
-one_long : (s : List ℕ) (n : ℕ) (t : List ℕ) → n < 2 ^ 64 → length (one_text s n t) ≤ length s + 20 + length t
-one_long s n t h = simp length-append (omega (arith, decimal_short n h))
 
 two_short : (s : List ℕ) (a : ℕ) (m : List ℕ) (b : ℕ) (t : List ℕ) → Ten a → Ten b → length (two_text s a m b t) ≤ length s + 10 + length m + 10 + length t
 two_short s a m b t h k = simp length-append (omega (arith, digits a h, digits b k))
@@ -112,28 +105,28 @@ module _ (a b : ℤ) (f : SFits w32 a) (g : SFits w32 b) where
 
   -- ---- lines
 
-  pub line_short : (i kind : ℕ) → i < 2 ^ 64 → length (node_line i (node_of (pos kind) a b)) ≤ longest_line
+  pub line_short : (i kind : ℕ) → Ten i → length (node_line i (node_of (pos kind) a b)) ≤ longest_line
   line_short i kind h =
       let n = node_of (pos kind) a b in
       rw (line_parts i n, length-append (one_text (bytes "(let ((n") i (bytes " ")) (expr_text (expr_of n) ++ bytes "))\n"), length-append (expr_text (expr_of n)) (bytes "))\n"))
-      (omega (arith, one_long (bytes "(let ((n") i (bytes " ") h, expression_short kind))
+      (omega (arith, one_short (bytes "(let ((n") i (bytes " ") h, expression_short kind))
 
-count_short : (s g : List ℕ) (i : ℕ) → length s ≤ 11 → length g ≤ 10 → i < 2 ^ 64 → length (count_text s g i) ≤ longest_line
+count_short : (s g : List ℕ) (i : ℕ) → length s ≤ 11 → length g ≤ 10 → Ten i → length (count_text s g i) ≤ longest_line
 count_short s g i l m h =
     rw (length-append (one_text s i (bytes " Int))\n")) (one_text g i (bytes " 0)\n")))
-    (omega (arith, one_long s i (bytes " Int))\n") h, one_long g i (bytes " 0)\n") h))
+    (omega (arith, one_short s i (bytes " Int))\n") h, one_short g i (bytes " 0)\n") h))
 
-pub quantifier_short : (i : ℕ) (q : Quantifier) → i < 2 ^ 64 → length (quantifier_line i q) ≤ longest_line
+pub quantifier_short : (i : ℕ) (q : Quantifier) → Ten i → length (quantifier_line i q) ≤ longest_line
 unfolding quantifier_line quantify_line name_text
-quantifier_short i (int_q true) h = omega (arith, one_long (bytes "(exists ((q") i (bytes " Int))\n") h)
-quantifier_short i (int_q false) h = omega (arith, one_long (bytes "(forall ((q") i (bytes " Int))\n") h)
+quantifier_short i (int_q true) h = omega (arith, one_short (bytes "(exists ((q") i (bytes " Int))\n") h)
+quantifier_short i (int_q false) h = omega (arith, one_short (bytes "(forall ((q") i (bytes " Int))\n") h)
 quantifier_short i (set_q some) h = omega arith
 quantifier_short i (count_q true) h = rw (count_some i) (count_short (bytes "(exists ((q") (bytes "(and (>= q") i (omega arith) (omega arith) h)
 quantifier_short i (count_q false) h = rw (count_all i) (count_short (bytes "(forall ((q") (bytes "(=> (>= q") i (omega arith) (omega arith) h)
 
 -- ---- texts
 
-root_short : (r : ℕ) → r < 2 ^ 64 → length (root_line r) ≤ longest_line
+pub root_short : (r : ℕ) → r < 2 ^ 64 → length (root_line r) ≤ longest_line
 root_short r h = simp length-append (omega (arith, decimal_short r h))
 
 brackets_few : (qs : List Quantifier) → brackets qs ≤ 2 * length qs

@@ -1,6 +1,6 @@
 -- What the functions below the writer's entry ask of a table, and the parts of a text that they count.
 -- Assumes nothing.
-use Rattle.std.specs.Prelude.{◌≡◌, List, ℕ, ◌+◌, ◌*◌, ◌≤◌, ℤ, length}
+use Rattle.std.specs.Prelude.{◌≡◌, List, ℕ, ◌+◌, ◌*◌, ◌^◌, ◌<◌, ◌≤◌, ℤ, length}
 use Rattle.checker.specs.declared.Shape.{Shape}
 use Rattle.checker.specs.declared.Dialect.TheVariants.{Emitted}
 use Rattle.checker.specs.Claim.{Quantifier, int_q, set_q, count_q}
@@ -18,9 +18,13 @@ pub record Laid (ws : List ℤ) (s : Shape) : Type 0 where
   pub few_quantifiers : s.quantifiers ≤ most_quantifiers Emitted
   pub long : length ws ≡ 3 * s.nodes + s.quantifiers + 4
 
+-- at most ten digits: so is every number in a table
+abbrev pub Ten : ℕ → Type 0
+Ten n = n < 10 ^ 10
+
 -- No line of a node and no lines of a quantifier are longer.
 abbrev pub longest_line : ℕ
-longest_line = 72
+longest_line = 64
 
 -- the root on its line
 abbrev pub root_line : ℕ → List ℕ

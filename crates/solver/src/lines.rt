@@ -4,7 +4,7 @@ ghost use Rattle.std.specs.Prelude.{◌+◌, ◌*◌, ◌≤◌, pos, length};
 ghost use Rattle.checker.specs.Kinds.{quantifier_of};
 ghost use Rattle.checker.specs.Words.{node_at};
 ghost use Rattle.sentence.specs.Lines.{node_line, quantifier_line};
-ghost use Rattle.solver.specs.Laid.{longest_line};
+ghost use Rattle.solver.specs.Laid.{Ten, longest_line};
 
 use crate::expression::put_expression;
 use crate::kinds::{ALL_COUNTS, ALL_INTEGERS, ALL_SETS, SOME_COUNT, SOME_SET};
@@ -15,7 +15,7 @@ use crate::sinks::Sink;
 pub fn put_node<S: Sink>(words: &[i32], i: usize, sink: &mut S)
     requires { 3 * i + 3 ≤ length words.now }
     ensures put { S.took sink.old (node_line i (node_at words.now i)) sink.new }
-    ensures short { length (node_line i (node_at words.now i)) ≤ longest_line }
+    ensures short { Ten i → length (node_line i (node_at words.now i)) ≤ longest_line }
 {
     put_one(sink, b"(let ((n", i as u64, b" ");
     put_expression(
@@ -31,7 +31,7 @@ pub fn put_node<S: Sink>(words: &[i32], i: usize, sink: &mut S)
 #[tactic(auto, using(crate::proofs::Short::quantifier_short), unfolding(checker::specs::Kinds::quantifier_of, checker::specs::Kinds::number, sentence::specs::Lines::quantifier_line, sentence::specs::Text::quantify_line, sentence::specs::Text::name_text))]
 pub fn put_quantifier<S: Sink>(sink: &mut S, i: usize, kind: usize)
     ensures put { S.took sink.old (quantifier_line i (quantifier_of (pos kind))) sink.new }
-    ensures short { length (quantifier_line i (quantifier_of (pos kind))) ≤ longest_line }
+    ensures short { Ten i → length (quantifier_line i (quantifier_of (pos kind))) ≤ longest_line }
 {
     let n = i as u64;
     match kind {

@@ -20,5 +20,5 @@ returns g c =
     let node = node_is ws i c.word.ensures refl refl in
     record {
       put = rw (node, line_parts i) (joined _ _ _ _ _ c.put_one.ensures (joined _ _ _ _ _ put c.put.ensures));
-      short = rw node (line_short _ _ a b i c.word.result (omega arith));
+      short = λ ten. rw node (line_short _ _ a b i c.word.result ten);
     }
