@@ -264,7 +264,7 @@ module _ {ws : List ℤ} {shape : Shape} {plan : List ℕ} {i : ℕ} (ready : Re
 
   -- ---- nodes of sets
 
-  module _ {patterns : List ℕ} (patterned : Patterned (claim_of ws) patterns i) {f : code.Frame} (says : Says (claim_of ws).quantifiers f) (at : ℕ) (counted : at ≡ before) where
+  module _ {patterns : List ℕ} (patterned : Patterned (claim_of ws) patterns i) where
     without_is : (x y : ℕ) → SetChild ready patterned x → SetChild ready patterned y
         → covered 0 (frame_of (claim_of ws)).regions (minus (covering x) (covering y)) ≡ without patterns x y
     unfolding without
@@ -277,24 +277,11 @@ module _ {ws : List ℤ} {shape : Shape} {plan : List ℕ} {i : ℕ} (ready : Re
     unfolding word_at
     card_child e = set_child ready patterned a (fitting ready (card a) (of_its_kind ready 16 e))
 
-    pub run_card : word_at ws (3 * i) ≡ 16 → run_at (claim_of ws) i ≡ card_run (place_in f) at (regions_from patterns a 0)
-    unfolding run_of word_at
-    run_card e =
-        run_is (card a) (of_its_kind ready 16 e)
-        ∙ rw (place_is says, ← counted, ← covered_cut (frame_of (claim_of ws)).regions patterns a (covering a) patterned.room (card_child e).covers)
-
     pub equal_children : word_at ws (3 * i) ≡ 23 → SetChild ready patterned a × SetChild ready patterned b
     unfolding word_at
     equal_children e =
         let t = fitting ready (set_equal a b) (of_its_kind ready 23 e) in
         (set_child ready patterned a t.0, set_child ready patterned b t.1)
-
-    pub run_equal : word_at ws (3 * i) ≡ 23 → run_at (claim_of ws) i ≡ both_run (place_in f) at (without patterns a b) (without patterns b a)
-    unfolding run_of word_at
-    run_equal e =
-        let t = equal_children e in
-        run_is (set_equal a b) (of_its_kind ready 23 e)
-        ∙ rw (place_is says, ← counted, without_is a b t.0 t.1, without_is b a t.1 t.0)
 
     pub subset_children : word_at ws (3 * i) ≡ 24 → SetChild ready patterned a × SetChild ready patterned b
     unfolding word_at
@@ -302,8 +289,22 @@ module _ {ws : List ℤ} {shape : Shape} {plan : List ℕ} {i : ℕ} (ready : Re
         let t = fitting ready (subset a b) (of_its_kind ready 24 e) in
         (set_child ready patterned a t.0, set_child ready patterned b t.1)
 
-    pub run_subset : word_at ws (3 * i) ≡ 24 → run_at (claim_of ws) i ≡ empty_run (place_in f) at (without patterns a b)
-    unfolding run_of word_at
-    run_subset e =
-        let t = subset_children e in
-        run_is (subset a b) (of_its_kind ready 24 e) ∙ rw (place_is says, ← counted, without_is a b t.0 t.1)
+    module _ {f : code.Frame} (says : Says (claim_of ws).quantifiers f) (at : ℕ) (counted : at ≡ before) where
+      pub run_card : word_at ws (3 * i) ≡ 16 → run_at (claim_of ws) i ≡ card_run (place_in f) at (regions_from patterns a 0)
+      unfolding run_of word_at
+      run_card e =
+          run_is (card a) (of_its_kind ready 16 e)
+          ∙ rw (place_is says, ← counted, ← covered_cut (frame_of (claim_of ws)).regions patterns a (covering a) patterned.room (card_child e).covers)
+
+      pub run_equal : word_at ws (3 * i) ≡ 23 → run_at (claim_of ws) i ≡ both_run (place_in f) at (without patterns a b) (without patterns b a)
+      unfolding run_of word_at
+      run_equal e =
+          let t = equal_children e in
+          run_is (set_equal a b) (of_its_kind ready 23 e)
+          ∙ rw (place_is says, ← counted, without_is a b t.0 t.1, without_is b a t.1 t.0)
+
+      pub run_subset : word_at ws (3 * i) ≡ 24 → run_at (claim_of ws) i ≡ empty_run (place_in f) at (without patterns a b)
+      unfolding run_of word_at
+      run_subset e =
+          let t = subset_children e in
+          run_is (subset a b) (of_its_kind ready 24 e) ∙ rw (place_is says, ← counted, without_is a b t.0 t.1)

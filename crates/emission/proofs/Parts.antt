@@ -2,7 +2,7 @@
 -- Assumes nothing.
 use mathlib.Core.Path.{◌≡◌, refl, ap, ◌∙◌}
 use mathlib.Core.List.{List, [], ◌∷◌, ◌++◌, append_assoc}
-use Prim.Native.Nat.{ℕ, ◌+◌, ◌*◌, ◌-◌, ◌≤◌, ◌<◌}
+use Prim.Native.Nat.{ℕ, ◌+◌, ◌*◌, ◌-◌, ◌≤◌, ◌<◌, max}
 use native.Mathlib.Omega.{arith}
 use lib.IntN.{pos}
 use lib.ListN.{length}
@@ -36,13 +36,13 @@ unfolding sum_run
 sum_none p at [] e = refl
 sum_none p at (r ∷ rs) e = absurd (omega arith)
 
-card_some : (rs : List ℕ) → 0 < length rs → card_length rs ≡ 2 * length rs - 1
-card_some [] h = absurd (omega arith)
-card_some (r ∷ rs) h = omega arith
+card_all : (rs : List ℕ) → card_length rs ≡ 2 * max (length rs) 1 - 1
+card_all [] = refl
+card_all (r ∷ rs) = omega arith
 
--- 2 p - 1 nodes
-pub card_size : (p : Place) (at : ℕ) (rs : List ℕ) → 0 < length rs → length (card_run p at rs) ≡ 2 * length rs - 1
-card_size p at rs h = card-length p rs at ∙ card_some rs h
+-- 2 p - 1 nodes, and one if p is 0
+pub card_size : (p : Place) (at : ℕ) (rs : List ℕ) → length (card_run p at rs) ≡ 2 * max (length rs) 1 - 1
+card_size p at rs = card-length p rs at ∙ card_all rs
 
 pub card_least : (p : Place) (at : ℕ) (rs : List ℕ) → 1 ≤ length (card_run p at rs)
 unfolding card_run

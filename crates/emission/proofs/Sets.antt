@@ -139,7 +139,10 @@ module _ {ws : List ℤ} {shape : Shape} {plan patterns : List ℕ} {i : ℕ} (r
   abbrev inside : ℕ → Bool
   inside r = ltb r (frame_of (claim_of ws)).regions
 
-  -- there is room for the regions of all sets
+  -- entry i is there, and there is room for the regions of all sets
+  pub entry_here : i < entries patterns
+  entry_here = omega (arith, ready.here, patterned.long, (known ready).nodes)
+
   pub sets_room : 2 ^ shape.sets ≤ room_in patterns
   sets_room = rw (regions_are (claim_of ws).quantifiers, ← (known ready).sets) at patterned.room
 

@@ -7,6 +7,7 @@ pub mod nodes; // the runs of all nodes
 mod pattern; // the patterns of set nodes
 pub mod plan; // what the quantifiers give
 mod run; // the run of a node
+mod source; // the claim that is emitted
 pub mod write; // single nodes
 
 // What a run of quantifiers gives to what is inside them: the number of the next emitted quantifier, how many of them bind sets,

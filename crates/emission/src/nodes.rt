@@ -8,17 +8,8 @@ ghost use Rattle.emission.specs.Plan.{Planned};
 ghost use Rattle.emission.specs.Write.{Room, WroteNodes};
 
 use crate::Body;
+use crate::source::Source;
 use checker::Shape;
-
-// The number before n, 0 for 0.
-fn preceding(n: usize) -> usize
-    ensures { result ≡ n - 1 }
-{
-    if n == 0 {
-        return 0;
-    }
-    n - 1
-}
 
 // How many nodes the runs take, and the node that stands for the root.
 pub fn count(words: &[i32], shape: Shape, plan: &[usize], patterns: &mut [u64]) -> Body
@@ -27,22 +18,15 @@ pub fn count(words: &[i32], shape: Shape, plan: &[usize], patterns: &mut [u64]) 
     ensures nodes_value { (result.nodes ≡ length (body (claim_of words.now)).nodes) × (result.root ≡ (body (claim_of words.now)).root) }
     ensures nodes_bound { result.nodes ≤ (4 * pattern_bits + 3) * max_nodes }
 {
-    let nodes = shape.nodes;
-    let root = shape.root;
-    let mut at = 0;
-    let mut stands = 0;
-    let mut i = 0;
-    while i < nodes {
-        at += crate::count::run_length(words, shape, plan, i, patterns);
-        if i == root {
-            stands = preceding(at);
+    let source = Source { words, shape, plan };
+    let mut body = Body { nodes: 0, root: 0 };
+    for i in 0..shape.nodes {
+        body.nodes += source.run_length(i, patterns);
+        if i == shape.root {
+            body.root = body.nodes.saturating_sub(1);
         }
-        i += 1;
     }
-    Body {
-        nodes: at,
-        root: stands,
-    }
+    body
 }
 
 // The runs of all nodes, from the start of `out` on.
@@ -58,14 +42,12 @@ pub fn put_all(
     requires room { Room out.old 0 (length (body (claim_of words.now)).nodes) }
     ensures { WroteNodes out.old 0 (body (claim_of words.now)).nodes out.new result }
 {
-    let nodes = shape.nodes;
-    let mut stands = [0usize; 1024];
+    let source = Source { words, shape, plan };
+    let mut stands = [0; 1024];
     let mut at = 0;
-    let mut i = 0;
-    while i < nodes {
-        at = crate::run::put_run(words, shape, plan, i, patterns, &stands, out, at);
-        stands[i] = preceding(at);
-        i += 1;
+    for i in 0..shape.nodes {
+        at = source.put_run(i, patterns, &stands, out, at);
+        stands[i] = at.saturating_sub(1);
     }
     at
 }

@@ -17,18 +17,15 @@ fn inside(frame: Frame, kind: usize) -> Frame
     requires { (frame.next ≤ max_number) × (frame.level ≤ max_sets) }
     ensures { (qs : List Quantifier) → Says qs frame → Says (qs ++ quantifier_of (pos kind) ∷ []) result }
 {
-    let next = frame.next;
-    let level = frame.level;
     match kind {
         SOME_SET | ALL_SETS => Frame {
-            next: next + (2 << level),
-            level: level + 1,
-            first: next,
+            next: frame.next + (2 << frame.level),
+            level: frame.level + 1,
+            first: frame.next,
         },
         _ => Frame {
-            next: next + 1,
-            level,
-            first: frame.first,
+            next: frame.next + 1,
+            ..frame
         },
     }
 }
@@ -62,18 +59,14 @@ pub fn make(words: &[i32], shape: Shape, plan: &mut [usize])
     ensures planned { Planned plan.new (claim_of words.now).quantifiers }
     ensures plan_unchanged { drop (3 * shape.quantifiers + 3) plan.new ≡ drop (3 * shape.quantifiers + 3) plan.old }
 {
-    let start = 3 * shape.nodes;
-    let quantifiers = shape.quantifiers;
     let mut frame = Frame {
         next: 0,
         level: 0,
         first: 0,
     };
-    let mut j = 0;
-    while j < quantifiers {
+    for j in 0..shape.quantifiers {
         put_frame(plan, j, frame);
-        frame = inside(frame, checker::word(words, start + j));
-        j += 1;
+        frame = inside(frame, checker::word(words, 3 * shape.nodes + j));
     }
-    put_frame(plan, j, frame);
+    put_frame(plan, shape.quantifiers, frame);
 }

@@ -6,7 +6,7 @@ ghost use Rattle.checker.specs.Check.{kind_in};
 ghost use Rattle.region.specs.Pattern.{pattern_bits, entries, regions_from};
 ghost use Rattle.emission.specs.Emission.{region_node, card_run, empty_run, both_run};
 ghost use Rattle.emission.specs.Plan.{place_in};
-ghost use Rattle.emission.specs.Runs.{emitted_to, run_at, Patterned, Standing, Ready, Single, without, Spared};
+ghost use Rattle.emission.specs.Runs.{emitted_to, run_at, Patterned, Standing, Single, without, Spared};
 ghost use Rattle.emission.specs.Write.{max_number, Room, WroteNodes};
 
 use crate::Frame;
@@ -15,8 +15,8 @@ use crate::kinds::{
     SUBSET, SUM,
 };
 use crate::plan::frame_at;
+use crate::source::{Node, Source};
 use crate::write::{put_node, put_region, put_words, word};
-use checker::Shape;
 
 // The count of region r, and its sum with the node before.
 fn put_summand(out: &mut [i32], at: usize, frame: Frame, r: usize) -> usize
@@ -40,12 +40,10 @@ fn put_cardinality(patterns: &[u64], i: usize, frame: Frame, out: &mut [i32], at
     let first = region::next(patterns, i, 0);
     let mut here = put_region(out, at, frame, first);
     let mut from = first + 1;
-    let mut left = n - 1;
-    while 0 < left {
+    for _done in 1..n {
         let r = region::next(patterns, i, from);
         here = put_summand(out, here, frame, r);
         from = r + 1;
-        left -= 1;
     }
     here
 }
@@ -100,64 +98,57 @@ fn put_equality(
     put_node(out, join, AND, second - 1, join - 1)
 }
 
-// A node that becomes one node: its child and quantifier numbers are renewed.
-fn put_renewed(
-    words: &[i32],
-    shape: Shape,
-    plan: &[usize],
-    i: usize,
-    stands: &[usize],
-    out: &mut [i32],
-    at: usize,
-) -> usize
-    requires ready { Ready words.now shape plan.now i × Standing (claim_of words.now) stands.now i × (at ≡ length (emitted_to (claim_of words.now) i).nodes) }
-    requires single { Single (kind_in words.now i) × Room out.old at 1 }
-    ensures { WroteNodes out.old at (run_at (claim_of words.now) i) out.new result }
-{
-    let kind = checker::word(words, 3 * i);
-    let a = checker::word(words, 3 * i + 1);
-    let b = checker::word(words, 3 * i + 2);
-    match kind {
-        NUMBER => {
-            let outside = frame_at(plan, a);
-            put_node(out, at, NUMBER, outside.next, 0)
+impl Source<'_> {
+    // Node i, which becomes one node: its child and quantifier numbers are renewed.
+    fn put_renewed(&self, i: usize, stands: &[usize], out: &mut [i32], at: usize) -> usize
+        requires standing { (i < self.now.shape.nodes) × Standing (claim_of self.now.words.now) stands.now i × (at ≡ length (emitted_to (claim_of self.now.words.now) i).nodes) }
+        requires single { Single (kind_in self.now.words.now i) × Room out.old at 1 }
+        ensures { WroteNodes out.old at (run_at (claim_of self.now.words.now) i) out.new result }
+    {
+        let Node {
+            kind,
+            a,
+            b,
+            constant,
+        } = self.node(i);
+        match kind {
+            NUMBER => {
+                let outside = frame_at(self.plan, a);
+                put_node(out, at, NUMBER, outside.next, 0)
+            }
+            CONSTANT => put_words(out, at, word(CONSTANT), constant, 0),
+            MAXC => put_node(out, at, MAXC, 0, 0),
+            MULTIPLE | DIVIDES => put_words(out, at, word(kind), constant, word(stands[b])),
+            NOT => put_node(out, at, NOT, stands[a], 0),
+            _ => put_node(out, at, kind, stands[a], stands[b]),
         }
-        CONSTANT => put_words(out, at, word(CONSTANT), words[3 * i + 1], 0),
-        MAXC => put_node(out, at, MAXC, 0, 0),
-        MULTIPLE | DIVIDES => put_words(out, at, word(kind), words[3 * i + 1], word(stands[b])),
-        NOT => put_node(out, at, NOT, stands[a], 0),
-        _ => put_node(out, at, kind, stands[a], stands[b]),
     }
-}
 
-// The run of node i. Its pattern is noted if it is a set.
-pub fn put_run(
-    words: &[i32],
-    shape: Shape,
-    plan: &[usize],
-    i: usize,
-    patterns: &mut [u64],
-    stands: &[usize],
-    out: &mut [i32],
-    at: usize,
-) -> usize
-    requires ready { Ready words.now shape plan.now i × Patterned (claim_of words.now) patterns.old i × Standing (claim_of words.now) stands.now i }
-    requires at_value { (at ≡ length (emitted_to (claim_of words.now) i).nodes) × Room out.old at (length (run_at (claim_of words.now) i)) }
-    ensures wrote_nodes { WroteNodes out.old at (run_at (claim_of words.now) i) out.new result }
-    ensures patterned { Patterned (claim_of words.now) patterns.new (i + 1) }
-{
-    let kind = checker::word(words, 3 * i);
-    if kind <= COMPLEMENT {
-        crate::pattern::put_pattern(words, shape, plan, i, patterns);
-        return at;
-    }
-    let a = checker::word(words, 3 * i + 1);
-    let b = checker::word(words, 3 * i + 2);
-    let frame = frame_at(plan, shape.quantifiers);
-    match kind {
-        CARDINALITY => put_cardinality(patterns, a, frame, out, at),
-        SET_EQUAL => put_equality(patterns, i, a, b, frame, out, at),
-        SUBSET => put_within(patterns, i, a, b, frame, out, at),
-        _ => put_renewed(words, shape, plan, i, stands, out, at),
+    // The run of node i. Its pattern is noted if it is a set.
+    pub fn put_run(
+        &self,
+        i: usize,
+        patterns: &mut [u64],
+        stands: &[usize],
+        out: &mut [i32],
+        at: usize,
+    ) -> usize
+        requires patterned { (i < self.now.shape.nodes) × Patterned (claim_of self.now.words.now) patterns.old i × Standing (claim_of self.now.words.now) stands.now i }
+        requires at_value { (at ≡ length (emitted_to (claim_of self.now.words.now) i).nodes) × Room out.old at (length (run_at (claim_of self.now.words.now) i)) }
+        ensures wrote_nodes { WroteNodes out.old at (run_at (claim_of self.now.words.now) i) out.new result }
+        ensures patterned { Patterned (claim_of self.now.words.now) patterns.new (i + 1) }
+    {
+        let Node { kind, a, b, .. } = self.node(i);
+        if kind <= COMPLEMENT {
+            self.put_pattern(i, patterns);
+            return at;
+        }
+        let frame = frame_at(self.plan, self.shape.quantifiers);
+        match kind {
+            CARDINALITY => put_cardinality(patterns, a, frame, out, at),
+            SET_EQUAL => put_equality(patterns, i, a, b, frame, out, at),
+            SUBSET => put_within(patterns, i, a, b, frame, out, at),
+            _ => self.put_renewed(i, stands, out, at),
+        }
     }
 }

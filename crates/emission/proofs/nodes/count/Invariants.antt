@@ -8,9 +8,9 @@ use Rattle.emission.specs.Runs.{emitted_to, Patterned}
 use Rattle.emission.proofs.nodes.count.Given as goal
 
 abbrev pub invariant-loop-i : goal.invariant-loop-i
-invariant-loop-i l =
-    (l.i ≤ l.nodes) × (length l.patterns ≡ length l.initial.patterns) × Patterned (claim_of l.words) l.patterns l.i × (l.at ≡ length (emitted_to (claim_of l.words) l.i).nodes) × (l.at ≤ (4 * pattern_bits + 3) * l.i)
-    × (l.root < l.i → l.stands ≡ get_or (emitted_to (claim_of l.words) l.i).stands l.root 0)
-
-abbrev pub decreases-loop-i : goal.decreases-loop-i
-decreases-loop-i l = l.nodes - l.i
+invariant-loop-i l = record {
+  patterned : Patterned (claim_of l.fn.words) l.patterns l.i;
+  nodes : l.body.nodes ≡ length (emitted_to (claim_of l.fn.words) l.i).nodes;
+  few : l.body.nodes ≤ (4 * pattern_bits + 3) * l.i;
+  root : l.fn.shape.root < l.i → l.body.root ≡ get_or (emitted_to (claim_of l.fn.words) l.i).stands l.fn.shape.root 0;
+}

@@ -8,13 +8,6 @@ use Rattle.emission.proofs.Frames.{shifted, says_set, says_number, kind_set, kin
 use Rattle.emission.proofs.plan.inside.Goals as goal
 use Rattle.emission.proofs.plan.inside.Goals.{in_default-via-then-kind-lt3, in_default-via-else-kind-lt3+else-kind-lt5}
 
--- src/plan.rt:31:19
-pub overflow_add-result : goal.overflow_add-result
-overflow_add-result c =
-    let a = c.args in
-    omega (arith, shifted a.frame.level c.requires.1, pow_mono {j = 8} c.requires.1)
-
--- src/plan.rt:23:1
 pub returns-in-3 : goal.returns-in-3
 returns-in-3 c qs s =
     let a = c.args in

@@ -1,3 +1,4 @@
+use mathlib.Core.Path.{◌≡◌}
 use mathlib.Core.Bool.{true}
 use Prim.Native.Nat.{◌<◌}
 use native.Mathlib.Omega.{arith}
@@ -10,58 +11,46 @@ use Rattle.emission.proofs.Steps.{next_taken}
 use Rattle.emission.proofs.Frames.{says_none, says_small, noted_none, noted_more}
 use Rattle.emission.proofs.plan.make.Goals as goal
 
-pub overflow_mul-start : goal.overflow_mul-start
-overflow_mul-start c =
-    omega (arith, (sound c.args.words.now _ c.requires.0).few_nodes)
-
 pub loop-j-init : goal.loop-j-init
-loop-j-init c =
-    (omega arith, says_none, noted_none _ _ _)
-
-pub put_frame-requires : goal.put_frame-requires
-put_frame-requires c =
-    omega (arith, c.loop-j.invariant.2.long)
-
-pub overflow_add-start : goal.overflow_add-start
-overflow_add-start c =
-    omega (arith, (sound c.args.words.now _ c.requires.0).few_nodes)
+loop-j-init c = record { says = says_none; noted = noted_none _ _ _ }
 
 pub inside-frame-requires : goal.inside-frame-requires
 inside-frame-requires c =
     let claim = sound c.args.words.now c.args.shape c.requires.0 in
-    let loop = c.loop-j in
-    let small = says_small (claim_of c.args.words.now).quantifiers loop.j (omega (arith, claim.quantifiers, claim.few_quantifiers)) (omega (arith, claim.sets, claim.few_sets)) loop.invariant.1 in
+    let l = c.loop-j in
+    let small =
+    says_small (claim_of c.args.words.now).quantifiers l.j (omega (arith, claim.quantifiers, claim.few_quantifiers)) (omega (arith, claim.sets, claim.few_sets)) l.invariant.says in
     (omega (arith, small.0), small.1)
 
 pub loop-j-preserved : goal.loop-j-preserved
 loop-j-preserved c =
-    let loop = c.loop-j in
-    let less = c.loop-j-test.true in
+    let l = c.loop-j in
     let a = c.args in
     let qs = (claim_of a.words.now).quantifiers in
-    let more : loop.j < length qs = omega (arith, (sound c.args.words.now _ c.requires.0).quantifiers, less) in (
-      omega (arith, less),
-      rw (next_taken qs (int_q true) loop.j more, quantifier_at_lem a.words.now a.shape.nodes loop.j (sound a.words.now _ c.requires.0).nodes more, ← c.word.ensures)
-          (c.inside-frame.ensures (take loop.j qs) loop.invariant.1),
-      noted_more loop.invariant.2 loop.invariant.1 (omega (arith, less)) c.requires.1 c.put_frame.ensures,
-    )
+    let claim = sound a.words.now _ c.requires.0 in
+    let more : l.j < length qs = omega (arith, claim.quantifiers) in
+    record {
+      says = rw (next_taken qs (int_q true) l.j more, quantifier_at_lem a.words.now a.shape.nodes l.j claim.nodes more, ← c.word.ensures)
+          (c.inside-frame.ensures (take l.j qs) l.invariant.says);
+      noted = noted_more l.invariant.noted l.invariant.says (omega arith) c.requires.1 c.put_frame.ensures;
+    }
 
-pub put_frame-requires-2 : goal.put_frame-requires-2
-put_frame-requires-2 c =
-    omega (arith, c.loop-j.invariant.2.long)
+pub overflow_mul-shape : goal.overflow_mul-shape
+overflow_mul-shape c = omega (arith, (sound c.args.words.now _ c.requires.0).few_nodes)
 
-pub shape_of-plan : goal.shape_of-plan
-shape_of-plan c =
-    let loop = c.loop-j in
-    (noted_more loop.invariant.2 loop.invariant.1 (omega arith) c.requires.1 c.put_frame-2.ensures).long
+pub overflow_add-shape : goal.overflow_add-shape
+overflow_add-shape c = omega (arith, (sound c.args.words.now _ c.requires.0).few_nodes)
 
 pub returns : goal.returns
 returns c =
-    let loop = c.loop-j in
-    let all = noted_more loop.invariant.2 loop.invariant.1 (omega arith) c.requires.1 c.put_frame-2.ensures in record {
+    let l = c.loop-j in
+    let end : l.j ≡ c.args.shape.quantifiers = omega arith in
+    let claim = sound c.args.words.now _ c.requires.0 in
+    let all = noted_more l.invariant.noted l.invariant.says (omega arith) c.requires.1 (rw (← end) at c.put_frame-2.ensures) in
+    record {
       planned = record {
-        long = omega (arith, all.long, (sound c.args.words.now _ c.requires.0).quantifiers, c.requires.1);
-        says = λ j h. all.says j (omega (arith, (sound c.args.words.now _ c.requires.0).quantifiers, c.loop-j-test.false));
+        long = omega (arith, all.long, claim.quantifiers, c.requires.1);
+        says = λ j h. all.says j (omega (arith, claim.quantifiers));
       };
       plan_unchanged = all.past;
     }

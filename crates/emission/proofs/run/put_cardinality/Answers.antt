@@ -35,62 +35,52 @@ pub overflow_add-from : goal.overflow_add-from
 overflow_add-from c =
     omega (arith, c.next-first.ensures.0)
 
-pub overflow_sub-left : goal.overflow_sub-left
-overflow_sub-left c =
-    omega (arith, c.if-n-eq0.false)
-
-pub loop-left-init : goal.loop-left-init
-loop-left-init c =
+pub loop-done-init : goal.loop-done-init
+loop-done-init c =
     let a = c.args in
-    let rs = regions_from a.patterns.now a.i 0 in
     let size = c.size-n.ensures.0 in
-    let first = c.next-first.ensures in
+    let first = ap length c.next-first.ensures.2 in
     let put = c.put_region-here.ensures in
-    let some : 0 < length rs = omega (arith, size, c.if-n-eq0.false) in (
-      omega (arith, size, ap length first.2),
-      omega (arith, nodes_after put),
-      room_after _ (omega (arith, size, card_size (place_in a.frame) a.at rs some)) c.requires.room put,
-      nodes_start,
-    )
+    record {
+      left = omega (arith, size, first);
+      behind = omega (arith, nodes_after put);
+      room = room_after _ (omega (arith, size, first, card_size (place_in a.frame) a.at (regions_from a.patterns.now a.i 0))) c.requires.room put;
+      rest = nodes_start;
+    }
 
 pub next-r-requires : goal.next-r-requires
-next-r-requires c =
-    omega (arith, c.loop-left.invariant.0)
+next-r-requires c = omega (arith, c.loop-done.invariant.left)
 
 pub put_summand-here-requires : goal.put_summand-here-requires
 put_summand-here-requires c =
-    let loop = c.loop-left in
-    (room_part 2 (omega arith) loop.invariant.2, loop.invariant.1, omega (arith, c.requires.i_bound.1, c.next-r.ensures.0))
+    let l = c.loop-done in
+    (room_part 2 (omega (arith, l.invariant.left)) l.invariant.room, l.invariant.behind, omega (arith, c.requires.i_bound.1, c.next-r.ensures.0))
 
-pub overflow_add-from-in-loop-left : goal.overflow_add-from-in-loop-left
-overflow_add-from-in-loop-left c =
-    omega (arith, c.next-r.ensures.0)
+pub overflow_add-from-in-loop-done : goal.overflow_add-from-in-loop-done
+overflow_add-from-in-loop-done c = omega (arith, c.next-r.ensures.0)
 
-pub loop-left-preserved : goal.loop-left-preserved
-loop-left-preserved c =
-    let loop = c.loop-left in
+pub loop-done-preserved : goal.loop-done-preserved
+loop-done-preserved c =
+    let l = c.loop-done in
     let a = c.args in
-    let r = c.next-r in
     let put = c.put_summand-here.ensures in
+    let fewer = ap length c.next-r.ensures.2 in
     let split =
-    sum_next (place_in a.frame) loop.here c.put_summand-here.result r.result (regions_from a.patterns.now a.i loop.from) _
-    r.ensures.2 loop.invariant.1 (nodes_after put) in (
-      omega (arith, loop.invariant.0, ap length r.ensures.2),
-      omega (arith, nodes_after put),
-      room_after _ (omega arith) loop.invariant.2 put,
-      nodes_step split loop.invariant.3 put,
-    )
-
-pub shape_of-out : goal.shape_of-out
-shape_of-out c =
-    c.loop-left.invariant.3.words.long ∙ nodes_long c.put_region-here.ensures
+    sum_next (place_in a.frame) l.here c.put_summand-here.result c.next-r.result (regions_from a.patterns.now a.i l.from) _
+    c.next-r.ensures.2 l.invariant.behind (nodes_after put) in
+    record {
+      left = omega (arith, l.invariant.left, fewer);
+      behind = omega (arith, nodes_after put);
+      room = room_after _ (omega (arith, fewer)) l.invariant.room put;
+      rest = nodes_step split l.invariant.rest put;
+    }
 
 pub returns : goal.returns
 returns c =
-    let loop = c.loop-left in
+    let l = c.loop-done in
     let a = c.args in
     let first = c.next-first in
     let put = c.put_region-here in
-    let none : length (regions_from a.patterns.now a.i loop.from) ≡ 0 = omega (arith, loop.invariant.0, c.loop-left-test.false) in
-    let rest = nodes_end (sum_none (place_in a.frame) (loop.here - 1) (regions_from a.patterns.now a.i loop.from) none) loop.invariant.3 in
+    let none : length (regions_from a.patterns.now a.i l.from) ≡ 0 = omega (arith, l.invariant.left) in
+    let rest = nodes_end (sum_none (place_in a.frame) (l.here - 1) (regions_from a.patterns.now a.i l.from) none) l.invariant.rest in
     nodes_then (card_first (place_in a.frame) a.at put.result first.result (regions_from a.patterns.now a.i 0) _ first.ensures.2 (nodes_after put.ensures)) put.ensures rest
