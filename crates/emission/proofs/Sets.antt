@@ -107,9 +107,6 @@ spared_none patterns i = record { long = refl; kept = λ j n r. refl }
 pub spared_then : {before between after : List ℕ} {i : ℕ} → Spared before i between → Spared between i after → Spared before i after
 spared_then s t = record { long = t.long ∙ s.long; kept = λ j n r. t.kept j n r ∙ s.kept j n r }
 
-pub spared_put : {before after : List ℕ} {i : ℕ} {w : Set} → Put before i w after → Spared before i after
-spared_put p = record { long = p.long; kept = p.kept }
-
 -- ---- the difference of two entries
 
 pub difference_regions : {before after : List ℕ} {i : ℕ} (a b : ℕ) → Put before i (minus (covers_at before a) (covers_at before b)) after

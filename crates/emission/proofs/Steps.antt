@@ -13,7 +13,7 @@ use Rattle.checker.specs.Claim.{Node, Quantifier, sum, conj, int_q, set_q, count
 use Rattle.checker.specs.Sorts.{sets}
 use Rattle.checker.specs.Meaning.{Set}
 use Rattle.region.specs.Regions.{odd}
-use Rattle.emission.specs.Emission.{Place, region_node, Frame, none, halved, start, with_number, with_set, inside, inside_all, becomes, emit_quantifiers, sum_run, Emitted, emit_node, emit_nodes, five, further_fives, constraint, Body, join, close}
+use Rattle.emission.specs.Emission.{Place, region_node, Frame, none, halved, start, with_number, with_set, inside, inside_all, becomes, emit_quantifiers, sum_run, Emitted, emit_node, emit_nodes, five, further_fives, constraint}
 
 -- ---- one element further
 
@@ -102,17 +102,6 @@ unfolding emit_quantifiers
 quantifiers_step f qs d j h =
     ap (emit_quantifiers f) (next_taken qs d j h) ∙ quantifiers-append f (take j qs) (get_or qs j d ∷ [])
     ∙ ap (λ l. emit_quantifiers f (take j qs) ++ l) (append-nil (becomes (inside_all f (take j qs)) (get_or qs j d)))
-
--- the constraints of the quantifiers from number j on: those from j + 1 on, then that of j
-unfoldable pub closed_from : List Quantifier → Body → ℕ → Body
-closed_from qs b j = close (inside_all start (take j qs)) (drop j qs) b
-
-pub close_step : (qs : List Quantifier) (b : Body) (d : Quantifier) (j : ℕ) → j < length qs
-    → closed_from qs b j ≡ join (inside_all start (take j qs)) (get_or qs j d) (closed_from qs b (j + 1))
-unfolding closed_from close
-close_step qs b d j h =
-    ap (λ l. close (inside_all start (take j qs)) l b) (next_dropped qs d j h)
-    ∙ ap (λ g. join (inside_all start (take j qs)) (get_or qs j d) (close g (drop (j + 1) qs) b)) (sym (inside_step start qs d j h))
 
 -- ---- what a quantifier becomes: its number is how many are emitted before it
 

@@ -3,31 +3,26 @@
 use mathlib.Core.Path.{◌≡◌, ap, ◌∙◌}
 use mathlib.Core.List.{List, [], ◌∷◌, ◌++◌}
 use Prim.Native.Nat.{ℕ, ◌+◌, ◌*◌, ◌≤◌, ◌<◌}
-use native.Mathlib.Nat.{lt_of_le_of_lt}
 use native.Mathlib.Omega.{arith}
 use borrow.Author.Rules.{sfits_of}
-use lib.Dec.{lit<}
 use lib.IntN.{ℤ, pos}
 use lib.ListN.{length}
 use lib.Signed.{mag}
 use mir.Syntax.{w32}
 use mir.Val.{to_z, of_z}
-use mir.Facts.{to_z-of_z, to_z_pos}
+use mir.Facts.{to_z-of_z}
 use Rattle.checker.specs.Claim.{Node}
 use Rattle.checker.specs.Words.{fields, fields_of, node_words, nodes_words}
 use Rattle.checker.proofs.Words.{nodes_words-length, words_append}
 use Rattle.lent.specs.Write.{Wrote}
 use Rattle.lent.proofs.Writing.{Rest, wrote_long, wrote_none, wrote_then, rest_start, rest_step, rest_end}
-use Rattle.emission.specs.Write.{max_number, Room, WroteNodes}
+use Rattle.emission.specs.Write.{Room, WroteNodes}
 
 -- ---- words
 
 -- a signed local holds bits: the word that they say is the word
 pub said : (z : ℤ) → mag z < 2147483648 → to_z w32 (of_z w32 z) ≡ z
 said z h = to_z-of_z (sfits_of {w = w32} h)
-
-pub number_said : {n : ℕ} → n ≤ max_number → to_z w32 n ≡ pos n
-number_said h = to_z_pos w32 (lt_of_le_of_lt h (lit< tt))
 
 -- ---- nodes
 

@@ -34,10 +34,7 @@ fn put_frame(plan: &mut [usize], j: usize, frame: Frame)
     requires { 3 * j + 3 ≤ length plan.old }
     ensures { plan.new ≡ sets plan.old (3 * j) (frame.next ∷ frame.level ∷ frame.first ∷ []) }
 {
-    let i = 3 * j;
-    plan[i] = frame.next;
-    plan[i + 1] = frame.level;
-    plan[i + 2] = frame.first;
+    lent::put_all(plan, 3 * j, &[frame.next, frame.level, frame.first]);
 }
 
 // What the quantifiers outside quantifier j give.

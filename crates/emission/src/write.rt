@@ -21,6 +21,7 @@ pub fn put_words(out: &mut [i32], at: usize, kind: i32, a: i32, b: i32) -> usize
     requires { Room out.old at 1 }
     ensures { Wrote out.old (3 * at) (kind ∷ a ∷ b ∷ []) out.new (3 * result) }
 {
+    // Word by word: through `lent::put_all` a reduction was measured to take up to two and a half times as long.
     let i = 3 * at;
     out[i] = kind;
     out[i + 1] = a;

@@ -1,6 +1,6 @@
 -- `emission::nodes::count` meets its contract: what is counted is what stands after the nodes passed. Assumes nothing.
 use mathlib.Core.Path.{◌≡◌}
-use Prim.Native.Nat.{◌+◌, ◌*◌, ◌-◌, ◌≤◌, ◌<◌}
+use Prim.Native.Nat.{◌+◌, ◌*◌, ◌≤◌, ◌<◌}
 use lib.ListN.{length, get_or}
 use Rattle.checker.specs.Words.{claim_of}
 use Rattle.region.specs.Pattern.{pattern_bits}

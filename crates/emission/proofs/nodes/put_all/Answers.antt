@@ -27,8 +27,7 @@ put_run-at-requires-clause-at_value c =
     let l = c.loop-i in
     let claim = claim_of c.args.words.now in
     let inside : l.i < length claim.nodes = omega (arith, (sound c.args.words.now c.args.shape c.requires.words_value.0).nodes) in
-    let long = ap length (nodes_next claim l.i inside) ∙ length-append (emitted_to claim l.i).nodes (run_at claim l.i) in
-    (
+    let long = ap length (nodes_next claim l.i inside) ∙ length-append (emitted_to claim l.i).nodes (run_at claim l.i) in (
       nodes_after l.invariant.wrote ∙ zero-add _,
       room_after _ (omega (arith, long, emitted_within claim (l.i + 1))) c.requires.room l.invariant.wrote,
     )

@@ -2,7 +2,6 @@ use mathlib.Core.Path.{ap}
 use Prim.Native.Nat.{ℕ, ◌+◌}
 use native.Mathlib.Omega.{arith}
 use lib.IntN.{pos}
-use lib.Pow.{pow_mono}
 use Rattle.checker.specs.Kinds.{quantifier_of}
 use Rattle.emission.proofs.Frames.{shifted, says_set, says_number, kind_set, kind_number}
 use Rattle.emission.proofs.plan.inside.Goals as goal

@@ -41,16 +41,13 @@ overflow_mul-shape c = omega (arith, (sound c.args.words.now _ c.requires.0).few
 pub overflow_add-shape : goal.overflow_add-shape
 overflow_add-shape c = omega (arith, (sound c.args.words.now _ c.requires.0).few_nodes)
 
-pub returns : goal.returns
-returns c =
+pub returns-clause-planned : goal.returns-clause-planned
+returns-clause-planned c =
     let l = c.loop-j in
     let end : l.j ≡ c.args.shape.quantifiers = omega arith in
     let claim = sound c.args.words.now _ c.requires.0 in
     let all = noted_more l.invariant.noted l.invariant.says (omega arith) c.requires.1 (rw (← end) at c.put_frame-2.ensures) in
     record {
-      planned = record {
-        long = omega (arith, all.long, claim.quantifiers, c.requires.1);
-        says = λ j h. all.says j (omega (arith, claim.quantifiers));
-      };
-      plan_unchanged = all.past;
+      long = omega (arith, all.long, claim.quantifiers, c.requires.1);
+      says = λ j h. all.says j (omega (arith, claim.quantifiers));
     }

@@ -1,5 +1,5 @@
-use mathlib.Core.Path.{◌≡◌, ap, ◌∙◌}
-use Prim.Native.Nat.{◌-◌, ◌<◌}
+use mathlib.Core.Path.{◌≡◌, ap}
+use Prim.Native.Nat.{◌-◌}
 use native.Mathlib.Omega.{arith}
 use lib.IntN.{pos}
 use lib.ListN.{length}
@@ -7,7 +7,7 @@ use Rattle.checker.specs.Claim.{const}
 use Rattle.region.specs.Pattern.{regions_from}
 use Rattle.emission.specs.Plan.{place_in}
 use Rattle.emission.proofs.Parts.{card_none, card_first, card_size, card_least, sum_next, sum_none}
-use Rattle.emission.proofs.Writing.{as_node, nodes_after, nodes_long, nodes_then, nodes_start, nodes_step, nodes_end, room_part, room_after}
+use Rattle.emission.proofs.Writing.{as_node, nodes_after, nodes_then, nodes_start, nodes_step, nodes_end, room_part, room_after}
 use borrow.Author.Rules.{rules}
 use Rattle.emission.proofs.run.put_cardinality.Goals as goal
 
@@ -22,18 +22,10 @@ returns-then-n-eq0 c =
     let none : length (regions_from a.patterns.now a.i 0) ≡ 0 = omega (arith, c.size-n.ensures.0, c.if-n-eq0.true) in
     rw (card_none (place_in a.frame) a.at (regions_from a.patterns.now a.i 0) none) (as_node (const (pos 0)) c.put_node.ensures)
 
-pub next-first-requires : goal.next-first-requires
-next-first-requires c =
-    omega (arith, c.size-n.ensures.0, c.if-n-eq0.false)
-
 pub put_region-here-requires : goal.put_region-here-requires
 put_region-here-requires c =
     let a = c.args in
     (room_part 1 (card_least (place_in a.frame) a.at (regions_from a.patterns.now a.i 0)) c.requires.room, omega (arith, c.requires.i_bound.1, c.next-first.ensures.0))
-
-pub overflow_add-from : goal.overflow_add-from
-overflow_add-from c =
-    omega (arith, c.next-first.ensures.0)
 
 pub loop-done-init : goal.loop-done-init
 loop-done-init c =
@@ -47,17 +39,6 @@ loop-done-init c =
       room = room_after _ (omega (arith, size, first, card_size (place_in a.frame) a.at (regions_from a.patterns.now a.i 0))) c.requires.room put;
       rest = nodes_start;
     }
-
-pub next-r-requires : goal.next-r-requires
-next-r-requires c = omega (arith, c.loop-done.invariant.left)
-
-pub put_summand-here-requires : goal.put_summand-here-requires
-put_summand-here-requires c =
-    let l = c.loop-done in
-    (room_part 2 (omega (arith, l.invariant.left)) l.invariant.room, l.invariant.behind, omega (arith, c.requires.i_bound.1, c.next-r.ensures.0))
-
-pub overflow_add-from-in-loop-done : goal.overflow_add-from-in-loop-done
-overflow_add-from-in-loop-done c = omega (arith, c.next-r.ensures.0)
 
 pub loop-done-preserved : goal.loop-done-preserved
 loop-done-preserved c =

@@ -12,14 +12,11 @@ use Rattle.emission.proofs.Writing.{as_node, nodes_after, nodes_then, room_part,
 use borrow.Author.Rules.{rules}
 use Rattle.emission.proofs.run.put_emptiness.Goals as goal
 
-pub put_cardinality-zero-requires : goal.put_cardinality-zero-requires
-put_cardinality-zero-requires c =
+pub put_cardinality-zero-requires-clause-room : goal.put_cardinality-zero-requires-clause-room
+put_cardinality-zero-requires-clause-room c =
     let a = c.args in
     let rs : List ℕ = regions_from a.patterns.now a.i 0 in
-    record {
-      i_bound = c.requires.i_bound;
-      room = room_part _ (omega (arith, card-length (place_in a.frame) rs a.at, empty_length (place_in a.frame) rs a.at)) c.requires.room;
-    }
+    room_part _ (omega (arith, card-length (place_in a.frame) rs a.at, empty_length (place_in a.frame) rs a.at)) c.requires.room
 
 pub put_node-equal-requires : goal.put_node-equal-requires
 put_node-equal-requires c =

@@ -1,13 +1,13 @@
 -- `Source::put_renewed` meets its contract: kind by kind, the one node that node i becomes. Assumes nothing.
 use mathlib.Core.Path.{◌≡◌, sym, ◌∙◌}
-use mathlib.Core.Logic.{◌⊎◌, inl, inr, ⊎_elim}
-use Prim.Native.Nat.{ℕ, ◌+◌, ◌*◌, ◌<◌}
+use mathlib.Core.Logic.{◌⊎◌, inl, inr}
+use Prim.Native.Nat.{ℕ, ◌+◌, ◌*◌}
 use native.Mathlib.Omega.{arith}
 use mir.Syntax.{w32}
 use mir.Val.{SFits}
 use Rattle.std.proofs.lemmas.Int.{to_z-of_z}
 use Rattle.checker.specs.Claim.{num_var, const, maxc, neg}
-use Rattle.checker.specs.Words.{word, word_at, claim_of}
+use Rattle.checker.specs.Words.{word, claim_of}
 use Rattle.emission.specs.Runs.{Single}
 use Rattle.emission.proofs.Frames.{says_small}
 use Rattle.emission.proofs.Ready.{known, ready_at}
@@ -48,9 +48,6 @@ put_node-requires c =
     let next =
     says_small (claim_of c.args.self.now.words.now).quantifiers a (omega (arith, claim.quantifiers, claim.few_quantifiers)) (omega (arith, claim.sets, claim.few_sets)) here in
     (c.requires.single.1, search rules, rw c.frame_at-outside.ensures (omega (arith, next.0)), search rules)
-
-pub word-requires-in-15 : goal.word-requires-in-15
-word-requires-in-15 c = ⊎_elim (λ e. omega arith) (λ e. omega arith) c.in-15.is
 
 pub offset_bounds-stands-b : goal.offset_bounds-stands-b
 offset_bounds-stands-b c =

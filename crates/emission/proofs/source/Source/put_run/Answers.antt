@@ -8,16 +8,10 @@ use Rattle.emission.proofs.Writing.{nodes_none}
 use borrow.Author.Rules.{rules}
 use Rattle.emission.proofs.source.Source.put_run.Goals as goal
 
-pub put_pattern-requires : goal.put_pattern-requires
-put_pattern-requires c = (c.requires.patterned.0, c.requires.patterned.1, omega (arith, c.node-kind.ensures.kind))
-
-pub returns-then-kind-le-COMPLEMENT : goal.returns-then-kind-le-COMPLEMENT
-returns-then-kind-le-COMPLEMENT c =
-    let ready = ready_at c.args.self.now c.requires.patterned.0 in
-    record {
-      wrote_nodes = rw (run_none ready (omega (arith, c.node-kind.ensures.kind, c.if-kind-le-COMPLEMENT.true))) (nodes_none c.args.out.now c.args.at);
-      patterned = c.put_pattern.ensures;
-    }
+pub returns-then-kind-le-COMPLEMENT-clause-wrote_nodes : goal.returns-then-kind-le-COMPLEMENT-clause-wrote_nodes
+returns-then-kind-le-COMPLEMENT-clause-wrote_nodes c =
+    rw (run_none (ready_at c.args.self.now c.requires.patterned.0) (omega (arith, c.node-kind.ensures.kind, c.if-kind-le-COMPLEMENT.true)))
+    (nodes_none c.args.out.now c.args.at)
 
 pub frame_at-frame-requires : goal.frame_at-frame-requires
 frame_at-frame-requires c =
@@ -64,14 +58,10 @@ put_within-requires c =
       room = rw (a, b, ← run_subset ready patterned says c.args.at c.requires.at_value.0 kind) c.requires.at_value.1;
     }
 
-pub put_renewed-requires : goal.put_renewed-requires
-put_renewed-requires c =
-    let ready = ready_at c.args.self.now c.requires.patterned.0 in
+pub put_renewed-requires-clause-single : goal.put_renewed-requires-clause-single
+put_renewed-requires-clause-single c =
     let single = other_kind c.node-kind.ensures.kind c.if-kind-le-COMPLEMENT.false (search rules) in
-    record {
-      standing = (c.requires.patterned.0, c.requires.patterned.2, c.requires.at_value.0);
-      single = (single, rw (run_single ready single) at c.requires.at_value.1);
-    }
+    (single, rw (run_single (ready_at c.args.self.now c.requires.patterned.0) single) at c.requires.at_value.1)
 
 pub returns-in-16 : goal.returns-in-16
 returns-in-16 c =
@@ -108,10 +98,7 @@ returns-in-24 c =
       patterned = spared_next ready patterned c.put_within.ensures.spared (omega (arith, kind));
     }
 
-pub returns-in_default : goal.returns-in_default
-returns-in_default c =
-    let ready = ready_at c.args.self.now c.requires.patterned.0 in
-    record {
-      wrote_nodes = c.put_renewed.ensures;
-      patterned = spared_next ready c.requires.patterned.1 (spared_none _ _) (omega (arith, c.node-kind.ensures.kind, c.if-kind-le-COMPLEMENT.false));
-    }
+pub returns-in_default-clause-patterned : goal.returns-in_default-clause-patterned
+returns-in_default-clause-patterned c =
+    spared_next (ready_at c.args.self.now c.requires.patterned.0) c.requires.patterned.1 (spared_none _ _)
+    (omega (arith, c.node-kind.ensures.kind, c.if-kind-le-COMPLEMENT.false))

@@ -19,13 +19,10 @@ use Rattle.emission.proofs.source.Source.run_length.Goals as goal
 apart : {x i : ℕ} → x < i → x ≡ i → ⊥
 apart h e = omega arith
 
-pub put_pattern-requires : goal.put_pattern-requires
-put_pattern-requires c = (c.requires.0, c.requires.1, omega (arith, c.node-kind.ensures.kind))
-
-pub returns-then-kind-le-COMPLEMENT : goal.returns-then-kind-le-COMPLEMENT
-returns-then-kind-le-COMPLEMENT c =
+pub returns-then-kind-le-COMPLEMENT-clause-value : goal.returns-then-kind-le-COMPLEMENT-clause-value
+returns-then-kind-le-COMPLEMENT-clause-value c =
     let none = run_none (ready_at c.args.self.now c.requires.0) (omega (arith, c.node-kind.ensures.kind, c.if-kind-le-COMPLEMENT.true)) in
-    record { value = (sym (ap length none), omega arith); patterned = c.put_pattern.ensures }
+    (sym (ap length none), omega arith)
 
 pub size-requires : goal.size-requires
 size-requires c =
