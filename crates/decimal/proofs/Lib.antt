@@ -1,4 +1,3 @@
-pub mod Signs
 pub mod Decimals
 pub mod Lines
 pub mod Numbers

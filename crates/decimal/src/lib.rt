@@ -5,5 +5,5 @@
 mod print; // numbers, words and lines put into a text
 mod read; // numbers and words read out of a text
 
-pub use print::{magnitude, put_byte, put_bytes, put_decimal, put_line, put_word};
-pub use read::{negative, read_number, read_words};
+pub use print::{put_decimal, put_line, put_word};
+pub use read::{read_number, read_words};

@@ -1,21 +1,7 @@
 // Numbers, words and lines put into a text. Each function answers the place after what it put.
-ghost use Rattle.std.specs.Prelude.{◌≡◌, [], ◌∷◌, ◌+◌, ◌*◌, ◌<◌, ◌≤◌, nat_abs, length};
+ghost use Rattle.std.specs.Prelude.{◌≡◌, [], ◌∷◌, ◌+◌, ◌*◌, ◌<◌, ◌≤◌, length};
 ghost use Rattle.lent.specs.Write.{Room, Wrote};
 ghost use Rattle.decimal.specs.Printing.{decimal, word_text, ending, line_text};
-
-pub fn put_byte(out: &mut [u8], at: usize, b: u8) -> usize
-    requires { Room out.old at (b ∷ []) }
-    ensures { Wrote out.old at (b ∷ []) out.new result }
-{
-    lent::put(out, at, b)
-}
-
-pub fn put_bytes(out: &mut [u8], at: usize, s: &[u8]) -> usize
-    requires { Room out.old at s.now }
-    ensures { Wrote out.old at s.now out.new result }
-{
-    lent::put_all(out, at, s)
-}
 
 // The byte of a digit.
 fn digit(n: u64) -> u8
@@ -36,13 +22,6 @@ pub fn put_decimal(out: &mut [u8], at: usize, n: u64) -> usize
     lent::put(out, last, digit(n % 10))
 }
 
-// A word without its sign.
-pub fn magnitude(w: i32) -> u64
-    ensures { result ≡ nat_abs w }
-{
-    u64::from(w.unsigned_abs())
-}
-
 // A sign and ten digits at most.
 pub fn put_word(out: &mut [u8], at: usize, w: i32) -> usize
     requires { at + 11 ≤ length out.old }
@@ -50,7 +29,7 @@ pub fn put_word(out: &mut [u8], at: usize, w: i32) -> usize
     ensures upper_bound { result ≤ at + 11 }
 {
     let digits = if w < 0 { lent::put(out, at, b'-') } else { at };
-    put_decimal(out, digits, magnitude(w))
+    put_decimal(out, digits, u64::from(w.unsigned_abs()))
 }
 
 // The byte after a word that `rest` follows.

@@ -40,7 +40,7 @@ pub fn read_number(text: &[u8], most: u64) -> Option<u64>
 }
 
 // A number below 0.
-pub fn negative(n: u64) -> i32
+fn negative(n: u64) -> i32
     requires { n ≤ most_negative }
     ensures { result ≡ neg_ℤ (pos n) }
 {

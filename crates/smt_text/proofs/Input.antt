@@ -14,7 +14,8 @@ use Rattle.checker.specs.Kinds.{number, sort_table, node_of}
 use Rattle.checker.specs.Words.{word, tab, nodes_in, node_at, claim_of}
 use Rattle.checker.proofs.Rowwise.{◌▸◌}
 use Rattle.decimal.specs.Reading.{minus, value, most_negative, most_positive, is_number, is_word, word_of, Reading, stopped, after, read_pieces, read_text, pieces}
-use Rattle.decimal.proofs.Signs.{neg_word}
+use Rattle.std.proofs.lemmas.Bool.{and_parts}
+use Rattle.std.proofs.lemmas.Int.{ints}
 use Rattle.solver.proofs.Entries.{by_entry}
 use Rattle.text.specs.Answer.{max_bytes, max_numbers, input_words}
 use Rattle.smt_text.proofs.Free.{free, Small, FreeSmall, zero_small}
@@ -25,11 +26,6 @@ abbrev pub AllSmall : List ℤ → Type 0
 AllSmall [] = Unit {0}
 AllSmall (w ∷ ws) = Small w × AllSmall ws
 
-second : (a b : Bool) → (a && b) ≡ true → b ≡ true
-second true b e = e
-second false true e = refl
-second false false e = e
-
 word_small : (t : List ℕ) → is_word t ≡ true → Small (word_of t)
 unfolding is_word word_of
 word_small [] e = zero_small
@@ -37,9 +33,11 @@ word_small (b ∷ bs) e = go (eqb b minus) e
   where
     go : (t : Bool) → cond t (is_number bs && leb (value bs) most_negative) (is_number (b ∷ bs) && leb (value (b ∷ bs)) most_positive) ≡ true
         → Small (cond t (neg_ℤ (pos (value bs))) (pos (value (b ∷ bs))))
-    go true f = neg_word (value bs) (leb-true (value bs) most_negative (second (is_number bs) (leb (value bs) most_negative) f))
+    go true f =
+        let h = leb-true (value bs) most_negative (and_parts (is_number bs) _ f).1 in
+        record { sfits = omega (arith, ints) }
     go false f =
-        let h = leb-true (value (b ∷ bs)) most_positive (second (is_number (b ∷ bs)) (leb (value (b ∷ bs)) most_positive) f) in
+        let h = leb-true (value (b ∷ bs)) most_positive (and_parts (is_number (b ∷ bs)) _ f).1 in
         record { sfits = omega arith }
 
 read_small : (room : ℕ) (ps : List (List ℕ)) → AllSmall (read_pieces room ps).words
