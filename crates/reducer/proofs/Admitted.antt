@@ -5,41 +5,27 @@ use Rattle.checker.specs.declared.refusals.Refusal.TheVariants as refused
 use mathlib.Core.Path.{◌≡◌, refl, sym, ap, ◌∙◌}
 use mathlib.Core.Bool.{Bool, true, false, cond}
 use mathlib.Core.List.{List, ◌++◌}
-use Prim.Native.Nat.{ℕ, ◌≤◌, ◌<◌}
+use Prim.Native.Nat.{ℕ, ◌≤◌}
 use native.Mathlib.Omega.{arith}
 use native.Mathlib.Nat.{zero-add}
-use borrow.Author.Tests.{lt-ltb, le-ltb, ltb-false}
+use borrow.Author.Tests.{ltb-false}
 use lib.Dec.{ltb}
 use lib.IntN.{ℤ}
 use lib.ListN.{length, drop}
 use Rattle.checker.specs.declared.refusals.Refusal.{Refusal}
 use Rattle.checker.specs.declared.Shape.{Shape}
+use Rattle.std.proofs.lemmas.Bool.Decides.{nat_tests}
 use Rattle.checker.specs.Claim.{Claim}
 use Rattle.checker.specs.Words.{claim_of, words_of}
 use Rattle.checker.specs.Check.{verdict, check_of}
+use Rattle.checker.proofs.Words.{words-length}
 use Rattle.emission.specs.Emission.{emission}
 use Rattle.lent.specs.Write.{Wrote}
 use Rattle.lent.proofs.Writing.{wrote_front}
 use Rattle.reducer.specs.Reduced.{numbers, reducer_tests, admission, answer, reduced_of, held_after, out_after}
 
-module _ (room : ℕ) (c : Claim) (ok : Result Shape Refusal) where
-  pub at_nodes : numbers < length c.nodes → Err refused.LargeNumber ≡ verdict (reducer_tests room c) ok
-  unfolding verdict reducer_tests
-  at_nodes h = rw (lt-ltb _ _ h)
-
-  module _ (n : length c.nodes ≤ numbers) where
-    pub at_quantifiers : numbers < length c.quantifiers → Err refused.LargeNumber ≡ verdict (reducer_tests room c) ok
-    unfolding verdict reducer_tests
-    at_quantifiers h = rw (le-ltb _ _ n, lt-ltb _ _ h)
-
-    module _ (q : length c.quantifiers ≤ numbers) where
-      pub at_room : room < length (words_of c) → Err (refused.TooShort (length (words_of c))) ≡ verdict (reducer_tests room c) ok
-      unfolding verdict reducer_tests
-      at_room h = rw (le-ltb _ _ n, le-ltb _ _ q, lt-ltb _ _ h)
-
-      pub all_pass_lem : length (words_of c) ≤ room → ok ≡ verdict (reducer_tests room c) ok
-      unfolding verdict reducer_tests
-      all_pass_lem h = rw (le-ltb _ _ n, le-ltb _ _ q, le-ltb _ _ h)
+-- for the code, which makes the tests one by one
+pub ruleset in_order = (nat_tests, words-length)
 
 -- ---- what an answer says
 

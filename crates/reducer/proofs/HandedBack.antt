@@ -1,6 +1,6 @@
 -- The emission handed back to the checker: accepted within the limits of a claim, and refused by number 2 past them.
 -- Assumes nothing.
-use mathlib.Core.Path.{◌≡◌, refl, sym}
+use mathlib.Core.Path.{◌≡◌}
 use Prim.Native.Nat.{◌-◌, ◌<◌, ◌≤◌}
 use native.Mathlib.Omega.{arith}
 use lib.ListN.{length}
@@ -8,7 +8,7 @@ use Rattle.std.specs.Prelude.{Ok, Err}
 use Rattle.checker.specs.declared.Dialect.TheVariants.{SetClaims}
 use Rattle.checker.specs.declared.refusals.Refusal.TheVariants as refused
 use Rattle.checker.specs.Claim.{Claim}
-use Rattle.checker.specs.Words.{mark, words_of}
+use Rattle.checker.specs.Words.{words_of}
 use Rattle.checker.specs.Sorts.{WellSorted}
 use Rattle.checker.specs.Accepted.{claim_shape}
 use Rattle.checker.specs.Check.{max_nodes, max_quantifiers, check_of}

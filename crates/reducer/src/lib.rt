@@ -26,13 +26,11 @@ const NUMBERS: usize = 2147483648;
 const PLAN: usize = 99;
 
 // Refusals 12 and 8, of an emission of this size into `room` words.
+#[tactic(auto, using(crate::proofs::Admitted::in_order), unfolding(crate::specs::Reduced::reducer_tests, checker::specs::Check::verdict))]
 fn admit(size: Size, room: usize, shape: Shape) -> Result<Shape, Refusal>
     ensures { (c : Claim) → size.nodes ≡ length c.nodes → size.quantifiers ≡ length c.quantifiers → result ≡ verdict (reducer_tests room c) (Ok shape) }
 {
-    if NUMBERS < size.nodes {
-        return Err(Refusal::LargeNumber);
-    }
-    if NUMBERS < size.quantifiers {
+    if NUMBERS < size.nodes || NUMBERS < size.quantifiers {
         return Err(Refusal::LargeNumber);
     }
     let needed = size.words();
@@ -63,24 +61,17 @@ fn reduce_with<const N: usize>(
     Ok(closing::put_emission(words, shape, &plan, &mut patterns, out, first))
 }
 
-// With a table of patterns as long as the sets of the claim ask for: clearing it is a good part of a short call.
-fn reduce_accepted(words: &[i32], shape: Shape, out: &mut [i32]) -> Result<usize, Refusal>
-    requires { check_of words.now ≡ Ok shape }
-    ensures value { result ≡ answer (emission (claim_of words.now)) (verdict (reducer_tests (length out.old) (emission (claim_of words.now))) (Ok shape)) }
-    ensures out_after { out.new ≡ held_after result (emission (claim_of words.now)) out.old }
-{
-    if shape.sets <= NARROW_SETS {
-        reduce_with::<NARROW>(words, shape, out)
-    } else {
-        reduce_with::<WIDE>(words, shape, out)
-    }
-}
-
-// Writes the emission of the claim from the start of `out` on, and says how many words that takes.
+// Writes the emission of the claim from the start of `out` on, and says how many words that takes. The table of patterns is as long as the sets of
+// the claim ask for: clearing it is a good part of a short call.
+#[tactic(auto, unfolding(crate::specs::Reduced::reduced_of, crate::specs::Reduced::admission, crate::specs::Reduced::answer, crate::specs::Reduced::out_after, crate::specs::Reduced::held_after))]
 pub fn reduce(words: &[i32], out: &mut [i32]) -> Result<usize, Refusal>
     ensures value { result ≡ reduced_of words.now (length out.old) }
     ensures out_after { out.new ≡ out_after words.now out.old }
 {
     let shape = checker::check(words)?;
-    reduce_accepted(words, shape, out)
+    if shape.sets <= NARROW_SETS {
+        reduce_with::<NARROW>(words, shape, out)
+    } else {
+        reduce_with::<WIDE>(words, shape, out)
+    }
 }
