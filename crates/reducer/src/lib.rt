@@ -41,6 +41,7 @@ fn admit(size: Size, room: usize, shape: Shape) -> Result<Shape, Refusal>
 }
 
 // With a table of patterns of N words. What is emitted is counted first, so that a refusal writes nothing.
+#[tactic(auto, unfolding(crate::specs::Reduced::answer, crate::specs::Reduced::held_after))]
 fn reduce_with<const N: usize>(
     words: &[i32],
     shape: Shape,

@@ -1,13 +1,11 @@
 -- `reducer::reduce_with` meets its contract: what is admitted is written, and what is refused leaves
 -- `out` as it was. Assumes nothing.
-use Rattle.std.proofs.Common.{ap, Err}
-use Rattle.std.proofs.lemmas.Result.{err_from_is_err_and}
 use mathlib.Core.Path.{sym, ◌∙◌}
 use native.Mathlib.Omega.{arith}
 use lib.ListN.{length}
 use Rattle.checker.specs.Words.{claim_of}
 use Rattle.emission.specs.Emission.{emission}
-use Rattle.reducer.proofs.Admitted.{admitted_room, emitted_answer, emitted_held, refused_answer, refused_held}
+use Rattle.reducer.proofs.Admitted.{admitted_room, emitted_held}
 use Rattle.checker.proofs.Claims.{sound}
 use Rattle.region.proofs.Pattern.{roomy_same}
 use Rattle.reducer.proofs.reduce_with.Goals as goal
@@ -30,23 +28,9 @@ put_emission-requires g c =
       words_in_bounds = admitted_room claim (length c.args.out.now) c.args.shape passed;
     }
 
-pub returns : goal.returns
-returns g c =
+pub returns-clause-out_after : goal.returns-clause-out_after
+returns-clause-out_after g c =
     let claim = emission (claim_of c.args.words.now) in
     let size = c.emitted-size.ensures in
     let passed = sym (c.admit.ensures claim size.nodes_value size.quantifiers_value) ∙ c.in_ok-admit.was in
-    let put = c.put_emission.ensures in
-    record {
-      value = emitted_answer claim put passed;
-      out_after = emitted_held claim put (admitted_room claim (length c.args.out.now) c.args.shape passed);
-    }
-
-pub returns-in_err-admit : goal.returns-in_err-admit
-returns-in_err-admit g c =
-    let claim = emission (claim_of c.args.words.now) in
-    let size = c.emitted-size.ensures in
-    let r = err_from_is_err_and c.from_residual.result c.from_residual.ensures.1 in
-    record {
-      value = r.1 ∙ ap Err r.2 ∙ refused_answer claim (sym (c.admit.ensures claim size.nodes_value size.quantifiers_value) ∙ c.in_err-admit.was);
-      out_after = rw r.1 (refused_held claim _ c.args.out.now);
-    }
+    emitted_held claim c.put_emission.ensures (admitted_room claim (length c.args.out.now) c.args.shape passed)
