@@ -16,7 +16,7 @@ use Rattle.region.proofs.Covered.{over_le}
 use Rattle.matrix.specs.Bound.{max_bound, bound_of, bounds_after, bounds, over_bound, first_over}
 use Rattle.matrix.specs.Final.{final_values}
 use Rattle.matrix.specs.Entry.{node_values}
-use Rattle.matrix.proofs.Absolute.{abs_plus, abs_minus, abs_times}
+use Rattle.std.proofs.lemmas.Int.{ints, unsigned_abs-mul}
 
 record Under (vs : List Value) (bs : List ℕ) : Type 0 where
   long : length vs ≡ length bs
@@ -58,9 +58,9 @@ module _ (qs : List Quantifier) (cs : List ℕ) (N : ℕ) (total : over (λ r. t
   value_under vs bs u (num_var q) = rw (final_num qs q) zero-le
   value_under vs bs u (const c) = le_refl (nat_abs c)
   value_under vs bs u maxc = le_of_eq total
-  value_under vs bs u (sum a b) = omega (arith, abs_plus (num_at vs a) (num_at vs b), u.le a, u.le b)
-  value_under vs bs u (diff a b) = omega (arith, abs_minus (num_at vs a) (num_at vs b), u.le a, u.le b)
-  value_under vs bs u (multiple c b) = le_trans (le_of_eq (abs_times c (num_at vs b))) (mul-le-mul_left (nat_abs c) (u.le b))
+  value_under vs bs u (sum a b) = omega (arith, ints, u.le a, u.le b)
+  value_under vs bs u (diff a b) = omega (arith, ints, u.le a, u.le b)
+  value_under vs bs u (multiple c b) = le_trans (le_of_eq (unsigned_abs-mul c (num_at vs b))) (mul-le-mul_left (nat_abs c) (u.le b))
   value_under vs bs u (card a) = rw (sym total) (over_le cs _)
   value_under vs bs u (equal a b) = zero-le
   value_under vs bs u (less a b) = zero-le

@@ -8,17 +8,18 @@ use borrow.Author.Tests.{eqb-true, eqb-false}
 use Rattle.std.proofs.Common.{rules}
 use Rattle.std.proofs.lemmas.Bool.Decides.{nat_tests}
 use lib.Dec.{eqb}
-use lib.IntN.{ℤ, nat_abs}
+use lib.IntN.{ℤ, pos, nat_abs, ◌+ℤ◌, ◌-ℤ◌, ◌*ℤ◌}
+use lib.Signed.{lt_z}
 use lib.ListN.{get_or}
 use Rattle.checker.specs.Claim.{Node, unknown, Quantifier}
 use Rattle.checker.specs.declared.Sort.TheVariants.{ASet}
 use Rattle.checker.specs.Sorts.{Is, Binds, Fits}
-use Rattle.checker.specs.Meaning.{Set, Value, set_at}
+use Rattle.checker.specs.Meaning.{Set, Value, set_at, divides, eq_z}
 use Rattle.matrix.specs.Entry.{entry_of}
 use Rattle.checker.specs.Kinds.{number, Entry, sort_table, entry_in, node_of}
 use Rattle.checker.specs.Words.{word, word_at, node_at}
 use Rattle.matrix.specs.Bound.{bound_of}
-use Rattle.matrix.specs.Work.{children}
+use Rattle.matrix.specs.Work.{children, bit_z, says, work}
 
 -- ---- what holds of each row of the sort table holds of every node that words are read as
 
@@ -120,3 +121,24 @@ pub entry_in_lem : (qs vs : List Value) (z a b : ℤ) (r : ℕ) → entry_of qs 
 unfolding entry_of
 entry_in_lem qs vs z a b r =
     in_table (λ k n. entry_of qs vs n r ≡ entry_by qs vs k (number a) (number b) r) z a b (search rules) (λ n. grind (arith, nat_tests))
+
+-- ---- numbers
+
+abbrev pub work_by : ℕ → ℕ → List ℤ → ℕ → ℤ → ℤ → ℤ
+work_by N p xs k a b =
+    cond (eqb k 11) a
+    (cond (eqb k 12) (pos N)
+    (cond (eqb k 13) (word xs (number a) +ℤ word xs (number b))
+    (cond (eqb k 14) (word xs (number a) -ℤ word xs (number b))
+    (cond (eqb k 15) (a *ℤ word xs (number b))
+    (cond (eqb k 16) (pos p)
+    (cond (eqb k 20) (bit_z (eq_z (word xs (number a)) (word xs (number b))))
+    (cond (eqb k 21) (bit_z (lt_z (word xs (number a)) (word xs (number b))))
+    (cond (eqb k 22) (bit_z (divides a (word xs (number b))))
+    (cond (eqb k 23 || eqb k 24) (bit_z (eqb p 0))
+    (cond (eqb k 25) (bit_z (says xs (number a) && says xs (number b)))
+    (cond (eqb k 26) (bit_z (says xs (number a) || says xs (number b))) (cond (eqb k 27) (bit_z (not (says xs (number a)))) (pos 0)))))))))))))
+
+pub work_in : (N p : ℕ) (xs : List ℤ) (z a b : ℤ) → work N p xs (node_of z a b) ≡ work_by N p xs (number z) a b
+unfolding work
+work_in N p xs z a b = in_table (λ k n. work N p xs n ≡ work_by N p xs k a b) z a b (search rules) (λ n. grind (arith, nat_tests))

@@ -1,9 +1,7 @@
 -- What is proved of matrices: lists built node by node (Build), values within their bounds (Bounded).
-mod Absolute
 mod Words
-mod Rows
 mod Kindwise
-mod Arms
+mod Worked
 pub mod Build
 pub mod Bounded
 pub mod Shown

@@ -45,27 +45,6 @@ module _ (marks : List Bool) (i : ℕ) (h : i < length marks) where
       go true t = subst (λ y. marked after y ≡ true) (sym (eqb-true x i t)) mark_new
       go false t = mark_other x (eqb-false x i t) ∙ e
 
-  -- what is marked now was marked, or is the new one
-  pub mark_cases : (x : ℕ) → marked after x ≡ true → (x ≡ i → ⊥) → marked marks x ≡ true
-  mark_cases x e n = sym (mark_other x n) ∙ e
-
-pub marked_none : (marks : List Bool) → Marked marks [] marks
-marked_none marks = record { now_marked = tt; still = λ x e. e; others = λ x h. refl }
-
-pub marked_one : (marks : List Bool) (i : ℕ) → i < length marks → Marked marks (i ∷ []) (set marks i true)
-marked_one marks i h = record {
-  now_marked = (mark_new marks i h, tt);
-  still = mark_still marks i h;
-  others = λ x l. mark_other marks i h x (λ e. omega (arith, l.0));
-}
-
-pub marked_two : (marks : List Bool) (i j : ℕ) → i < length marks → j < length (set marks i true) → Marked marks (i ∷ j ∷ []) (set (set marks i true) j true)
-marked_two marks i j h k = record {
-  now_marked = (mark_still (set marks i true) j k i (mark_new marks i h), (mark_new (set marks i true) j k, tt));
-  still = λ x e. mark_still (set marks i true) j k x (mark_still marks i h x e);
-  others = λ x l. mark_other (set marks i true) j k x (λ e. omega (arith, l.1.0)) ∙ mark_other marks i h x (λ e. omega (arith, l.0));
-}
-
 -- ---- how many are marked
 
 bit_le : (b : Bool) → cond b 1 0 ≤ 1

@@ -92,9 +92,6 @@ module _ (c : Claim) (needed : List Bool) (reach : List ℕ) (m : ℕ) (before :
     pub settled : (k : ℕ) → n ≤ k → k < n' → get_or reach (get_or order k 0) 0 ≤ m
     pub all : ((j : ℕ) → j < length c.nodes → get_or reach j 0 ≤ m) → (x : ℕ) → x < i → marked needed x ≡ true → marked placed x ≡ true
 
-  pub passing_none : (placed : List Bool) → Passing placed before n 0
-  passing_none placed = record { more = omega arith; kept = λ k h. refl; settled = λ k l h. absurd (omega arith); all = λ f x h. absurd (omega arith) }
-
   pub passed : (placed : List Bool) (order : List ℕ) (n' i : ℕ) → length c.nodes ≤ i → Passing placed order n' i → Passed c needed reach m before n placed order n'
   passed placed order n' i h p = record { more = p.more; kept = p.kept; settled = p.settled; all = λ f x l e. p.all f x (omega arith) e }
 

@@ -1,18 +1,19 @@
 -- One turn of the evaluation: the node at place k of the order can be worked out, and once it is stored one place more is known. Assumes nothing.
-use mathlib.Core.Path.{◌≡◌, sym, ap, subst, ◌∙◌}
+use mathlib.Core.Path.{◌≡◌, subst, ◌∙◌}
 use mathlib.Core.Bool.{true}
 use mathlib.Core.List.{List}
-use Prim.Native.Nat.{ℕ, ◌+◌, ◌^◌, ◌≤◌, ◌<◌}
+use Prim.Native.Nat.{ℕ, ◌+◌, ◌-◌, ◌^◌, ◌≤◌, ◌<◌}
 use native.Mathlib.Omega.{arith}
 use lib.IntN.{ℤ, nat_abs}
-use lib.ListN.{length, get_or, set, length-append}
+use lib.ListN.{length, get_or, set, take, drop, length-append, length-take, length-drop}
+use Rattle.std.proofs.lemmas.List.{get_or-take, get_or-drop}
 use Rattle.checker.specs.Claim.{Claim, unknown}
 use Rattle.checker.specs.Sorts.{sets}
 use Rattle.checker.specs.Words.{word, node_at, claim_of}
 use Rattle.checker.proofs.Accepted.{accepted_claim}
 use Rattle.checker.proofs.Claims.{node_at_lem}
 use Rattle.region.specs.Regions.{over}
-use Rattle.region.specs.Pattern.{covers_at}
+use Rattle.region.specs.Pattern.{covers_at, Counted}
 use Rattle.region.proofs.Covered.{over-append}
 use Rattle.matrix.specs.Bound.{max_bound}
 use Rattle.matrix.specs.Entry.{Filled}
@@ -23,12 +24,20 @@ use Rattle.matrix.proofs.Build.{node_room}
 use Rattle.matrix.proofs.Known.{next_small, next_earlier, known_next}
 
 -- the first regions have no more ports than all
-pub open_le : (c : Claim) (N : ℕ) (front : List ℕ) → Open c N front → over (λ r. true) front ≤ N
+open_le : (c : Claim) (N : ℕ) (front : List ℕ) → Open c N front → over (λ r. true) front ≤ N
 open_le c N front o = omega (arith, over-append front o.rest (λ r. true), o.counts.total)
 
 -- and they are no more than all
-pub open_few : (c : Claim) (N : ℕ) (front : List ℕ) → Open c N front → length front ≤ 2 ^ sets c.quantifiers
+open_few : (c : Claim) (N : ℕ) (front : List ℕ) → Open c N front → length front ≤ 2 ^ sets c.quantifiers
 open_few c N front o = omega (arith, length-append front o.rest, o.counts.regions)
+
+-- the places of the order from `known` up to `to`, as the code goes over them
+module _ (order : List ℕ) (known to k : ℕ) (h : k < length (take (to - known) (drop known order))) where
+  pub turn_below : known + k < to
+  turn_below = omega (arith, h, simp (length-take, length-drop) at h)
+
+  pub turn_place : get_or (take (to - known) (drop known order)) k 0 ≡ get_or order (known + k) 0
+  turn_place = get_or-take (to - known) (drop known order) k 0 (omega (arith, turn_below)) ∙ get_or-drop known order k 0
 
 module _ (ws : List ℤ) (N : ℕ) (ready : Ready ws N) (patterns : List ℕ) (filled : Filled (claim_of ws) (length (claim_of ws).nodes) patterns)
     (order : List ℕ) (known to : ℕ) (ordered : Order (claim_of ws) order to) (counts : List ℕ) (can : Open (claim_of ws) N counts)
@@ -57,9 +66,17 @@ module _ (ws : List ℤ) (N : ℕ) (ready : Ready ws N) (patterns : List ℕ) (f
             (next_small (claim_of ws) ok.sorted.0 N ready.bounded patterns filled order to ordered k h counts (settled k from h) xs u can.rest can.counts);
       }
 
-  pub turned : (v : ℤ) → v ≡ work N ports xs (node_at ws i) → Known (claim_of ws) N counts order (k + 1) (set xs i v)
-  turned v e =
+  pub countable : N < 2 ^ 32 → Counted patterns i counts
+  countable small = record {
+    entry = omega (arith, filled.long, ordered.nodes k h);
+    room = omega (arith, filled.room, open_few (claim_of ws) N counts can);
+    within = settled k from h;
+    small = omega (arith, open_le (claim_of ws) N counts can);
+  }
+
+  pub turned : (v : ℤ) → v ≡ work N ports xs (node_at ws i) → (next : ℕ) → next ≡ k + 1 → Known (claim_of ws) N counts order next (set xs i v)
+  turned v e next z =
       let ok = accepted_claim ws ready.shape ready.accepted in
       let below = ordered.nodes k h in
-      subst (λ z. Known (claim_of ws) N counts order (k + 1) (set xs i z)) (sym (e ∙ ap (work N ports xs) (sym is_node)))
+      rw (z, e, ← is_node)
       (known_next (claim_of ws) ok.sorted.0 N ready.bounded patterns filled order to ordered k h counts (settled k from h) xs u (omega arith))

@@ -2,7 +2,7 @@
 
 #![tactic(auto)]
 
-ghost use Rattle.std.specs.Prelude.{◌≡◌, ◌<◌, ◌≤◌, eqb, length};
+ghost use Rattle.std.specs.Prelude.{◌≡◌, ◌<◌, ◌≤◌, length};
 ghost use Rattle.checker.specs.Words.{node_at, claim_of};
 ghost use Rattle.checker.specs.Meaning.{matrix};
 ghost use Rattle.region.specs.Regions.{over, regions};
@@ -17,14 +17,6 @@ pub mod bound;
 mod numbers;
 pub mod order;
 pub mod patterns;
-
-// Whether no port is in the regions that entry i covers.
-fn none_in(patterns: &[u64], i: usize, counts: &[u32]) -> bool
-    requires { Counted patterns.now i counts.now }
-    ensures { result ≡ eqb (over (covers_at patterns.now i) counts.now) 0 }
-{
-    region::ports_in(patterns, i, counts) == 0
-}
 
 // The number of node i, from those of its children.
 fn value(
@@ -44,22 +36,18 @@ fn value(
     let b = words[3 * i + 2];
     match kind {
         11 => a,
-        12 => numbers::signed(size),
-        13 => numbers::plus(numbers::child(values, a), numbers::child(values, b)),
-        14 => numbers::minus(numbers::child(values, a), numbers::child(values, b)),
-        15 => numbers::times(a, numbers::child(values, b)),
-        16 => numbers::signed(region::ports_in(patterns, i, counts)),
-        20 => numbers::bit_of(numbers::same(numbers::child(values, a), numbers::child(values, b))),
-        21 => numbers::bit_of(numbers::smaller(
-            numbers::child(values, a),
-            numbers::child(values, b),
-        )),
-        22 => numbers::bit_of(numbers::divided(a, numbers::child(values, b))),
-        23 => numbers::bit_of(none_in(patterns, i, counts)),
-        24 => numbers::bit_of(none_in(patterns, i, counts)),
-        25 => numbers::bit_of(numbers::both(numbers::yes(values, a), numbers::yes(values, b))),
-        26 => numbers::bit_of(numbers::either(numbers::yes(values, a), numbers::yes(values, b))),
-        27 => numbers::bit_of(!numbers::yes(values, a)),
+        12 => size as i32,
+        13 => numbers::child(values, a) + numbers::child(values, b),
+        14 => numbers::child(values, a) - numbers::child(values, b),
+        15 => a * numbers::child(values, b),
+        16 => region::ports_in(patterns, i, counts) as i32,
+        20 => i32::from(numbers::child(values, a) == numbers::child(values, b)),
+        21 => i32::from(numbers::child(values, a) < numbers::child(values, b)),
+        22 => i32::from(numbers::divided(a, numbers::child(values, b))),
+        23 | 24 => i32::from(region::ports_in(patterns, i, counts) == 0),
+        25 => i32::from(numbers::yes(values, a) & numbers::yes(values, b)),
+        26 => i32::from(numbers::yes(values, a) | numbers::yes(values, b)),
+        27 => i32::from(!numbers::yes(values, a)),
         _ => 0,
     }
 }
@@ -86,12 +74,8 @@ pub fn evaluate(
     ensures known_2 { Known (claim_of words.now) size counts.now order.now to values.new }
     ensures kept { Kept order.now known values.old values.new }
 {
-    let mut k = known;
-    while k < to {
-        let i = order[k];
-        let v = value(words, patterns, size, counts, values, i);
-        values[i] = v;
-        k += 1;
+    for &i in &order[known..to] {
+        values[i] = value(words, patterns, size, counts, values, i);
     }
 }
 
@@ -117,5 +101,5 @@ pub fn holds(
     ensures kept { Kept order.now known values.old values.new }
 {
     evaluate(words, patterns, order, size, counts, values, known, rows);
-    numbers::same(values[root], 1)
+    values[root] == 1
 }
