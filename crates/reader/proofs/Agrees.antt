@@ -7,9 +7,8 @@ use native.Mathlib.Omega.{arith}
 use borrow.Author.Tests.{eqb-true, eq-eqb, ne_eqb}
 use lib.Dec.{eqb}
 use lib.ListN.{length}
-use Rattle.std.specs.Prelude.{◌↔◌, Option, Some, None, MatchOption}
+use Rattle.std.proofs.Common.{◌↔◌, Option, Some, None, MatchOption, Bor}
 use Rattle.std.specs.Option.{option_copied}
-use denote.Ref.{Bor}
 use Rattle.reader.specs.Same.{same}
 
 pub same_true : (bs text : List ℕ) → same bs text ≡ true → bs ≡ text
@@ -40,13 +39,14 @@ module _ (bs text : List ℕ) where
       other false n = refl
 
   -- Nothing is left: the text is just the bytes.
-  pub same_left : {P : Bor (List ℕ) → Type 0} (rest : Option (Bor (List ℕ))) (r : Bool) → MatchOption rest (r ≡ false) P → ((x : Bor (List ℕ)) → P x → r ≡ eqb (length x.now) 0)
+  pub same_left : {P : Bor (List ℕ) → Type 0} (rest : Option (Bor (List ℕ))) (r : Bool)
+      → MatchOption rest (r ≡ false) P → ((x : Bor (List ℕ)) → P x → r ≡ eqb (length x.now) 0)
       → ((left : List ℕ) → (Some text ≡ Some (bs ++ left)) ↔ (option_copied rest ≡ Some left)) → r ≡ same bs text
   same_left None r m empty took = m ∙ not_same (λ e. let f = (took []).0 (all_put e) in cc)
   same_left (Some x) r m empty took = empty x m ∙ at x.now (λ l. let f = (took l).1 in f) (λ l. (took l).0)
     where
-      at : (l : List ℕ) → ((left : List ℕ) → Some l ≡ Some left → Some text ≡ Some (bs ++ left)) → ((left : List ℕ) → Some text ≡ Some (bs ++ left) → Some l ≡ Some left)
-          → eqb (length l) 0 ≡ same bs text
+      at : (l : List ℕ) → ((left : List ℕ) → Some l ≡ Some left → Some text ≡ Some (bs ++ left))
+          → ((left : List ℕ) → Some text ≡ Some (bs ++ left) → Some l ≡ Some left) → eqb (length l) 0 ≡ same bs text
       at [] f g =
           let t : text ≡ bs = (let h = f [] refl in cc) ∙ append-nil bs in
           rw t (sym (same_refl bs))

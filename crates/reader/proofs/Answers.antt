@@ -182,10 +182,6 @@ module _ (text : List ℕ) where
         let (t, s) = (and-eq-true_iff (takes (scan limits text)) (same (text_of (scan limits text)) text)).0 (told true h) in
         e ∙ all_held (words_of (scan limits text)) (takes_parts (scan limits text) t).0
 
-    pub out_answered : writes ws text ≡ true → (out : List ℤ) → length ws ≤ length out → ws ++ drop (length ws) out ≡ out_after text out
-    unfolding out_after held_after
-    out_answered h out l = rw (answered h (length out) l) (ap (λ v. v ++ drop (length ws) out) (words_are h))
-
 -- ---- there and back
 
 -- What the writer writes for words that it takes is read as those words.

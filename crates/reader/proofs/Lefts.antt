@@ -9,7 +9,7 @@ use lib.ListN.{length}
 use Rattle.checker.specs.Claim.{Node}
 use Rattle.checker.specs.Words.{node_words, nodes_words}
 use Rattle.lent.specs.Write.{Wrote}
-use Rattle.lent.proofs.Writing.{Rest, rest_start, rest_step, rest_end}
+use Rattle.lent.proofs.Writing.{Rest, rest_step, rest_end}
 use Rattle.sentence.specs.Scan as scan
 use Rattle.sentence.specs.Scan.{is, found, before, line_from, nodes_from, quantifier_from, quantifiers_from}
 use Rattle.scanner.specs.declared.Found.{Found}
@@ -18,10 +18,11 @@ use Rattle.reader.specs.Held.{held}
 use Rattle.reader.specs.Runs.{RunPut}
 
 -- At most so many things are found one behind the other: `one` finds the first, where the text `begins` with one.
-pub record Run {A : Type 0} (all : ℕ → List ℕ → scan.Found (List A)) (one : List ℕ → scan.Found A) (begins : List ℕ → Bool) : Type 0 where
-  pub full : (bs : List ℕ) → all 0 bs ≡ found [] bs
-  pub over : (room : ℕ) (bs : List ℕ) → begins bs ≡ false → all room bs ≡ found [] bs
-  pub more : (room : ℕ) (bs : List ℕ) → begins bs ≡ true → all (suc room) bs ≡ before (one bs) (all room (one bs).rest)
+pub record Run {A : Type 0} (all : ℕ → List ℕ → scan.Found (List A)) (one : List ℕ → scan.Found A) (begins : List ℕ → Bool) : Type 0
+  where
+    pub full : (bs : List ℕ) → all 0 bs ≡ found [] bs
+    pub over : (room : ℕ) (bs : List ℕ) → begins bs ≡ false → all room bs ≡ found [] bs
+    pub more : (room : ℕ) (bs : List ℕ) → begins bs ≡ true → all (suc room) bs ≡ before (one bs) (all room (one bs).rest)
 
 nodes_over : (room : ℕ) (bs : List ℕ) → is 0 "(" bs ≡ false → nodes_from most room bs ≡ found [] bs
 unfolding nodes_from
@@ -53,17 +54,13 @@ module _ {A : Type 0} (words_of : List A → List ℤ) (width : ℕ) where
     pub ends : w.rest ≡ f.rest
     pub words : Rest l' (from + width * i) (map held (words_of f.value)) l from (map held (words_of w.value))
 
-  pub left_start : {w : scan.Found (List A)} {l : List ℤ} {from : ℕ} → Left w l from l 0 w
-  left_start {from} =
-      let e : from + width * 0 ≡ from = omega arith in
-      record { count = omega arith; ends = refl; words = rw e rest_start }
-
   module _ {all : ℕ → List ℕ → scan.Found (List A)} {one : List ℕ → scan.Found A} {begins : List ℕ → Bool} (run : Run all one begins)
       (n : ℕ) {w : scan.Found (List A)} {l l' : List ℤ} {from i : ℕ} {bs : List ℕ} (h : Left w l from l' i (all (n - i) bs))
     where
       -- The text begins with one more, whose words are ws.
-      pub left_step : i < n → begins bs ≡ true → {ws : List ℤ} → ((xs : List A) → map held (words_of ((one bs).value ∷ xs)) ≡ ws ++ map held (words_of xs))
-          → length ws ≡ width → {at : ℕ} → at ≡ from + width * i → {l'' : List ℤ} {m : ℕ} → Wrote l' at ws l'' m → {rest : List ℕ} → rest ≡ (one bs).rest
+      pub left_step : i < n → begins bs ≡ true
+          → {ws : List ℤ} → ((xs : List A) → map held (words_of ((one bs).value ∷ xs)) ≡ ws ++ map held (words_of xs)) → length ws ≡ width
+          → {at : ℕ} → at ≡ from + width * i → {l'' : List ℤ} {m : ℕ} → Wrote l' at ws l'' m → {rest : List ℕ} → rest ≡ (one bs).rest
           → Left w l from l'' (i + 1) (all (n - (i + 1)) rest)
       left_step k b {ws} s z p {l''} {m} o e =
           let g = all (n - (i + 1)) (one bs).rest in

@@ -3,4 +3,3 @@ pub mod Lefts
 pub mod Agrees
 pub mod Scans
 pub mod Answers
-pub mod Writes

@@ -30,7 +30,14 @@ module _ (text : List ℕ) {start name : List ℕ} {l l₁ l₂ l₃ l₄ : List
     written =
         let nodes' = rw first.found.rest at nodes in
         let number' = rw (named, nodes'.found.rest) at number in
-        rw (← opened, map-append held (nodes_words _), map-append held (map quantifier_word _), ← number'.value, ← nodes'.found.value, ← second.found.value)
+        rw (
+          ← opened,
+          map-append held (nodes_words _),
+          map-append held (map quantifier_word _),
+          ← number'.value,
+          ← nodes'.found.value,
+          ← second.found.value,
+        )
         (wrote_then (simp zero-add at nodes'.words) (wrote_then (simp one-mul at second.words) last))
 
     pub put_front : most_words ≤ length l → n ≤ most_words → take n l₄ ≡ map held (words_of (scan limits text))

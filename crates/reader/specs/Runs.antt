@@ -19,6 +19,8 @@ abbrev pub most_words : ℕ
 most_words = 3 * most_nodes Emitted + most_quantifiers Emitted + 4
 
 -- So many things were found, and from the list l to l' their words are put, `width` for each, from a place on.
-pub record RunPut {A : Type 0} (words_of : List A → List ℤ) (width : ℕ) (f : scan.Found (List A)) (l : List ℤ) (from : ℕ) (l' : List ℤ) (r : Found ℕ) : Type 0 where
-  pub found : Finds length f r
-  pub words : Wrote l from (map held (words_of f.value)) l' (from + width * r.value)
+pub record RunPut {A : Type 0} (words_of : List A → List ℤ) (width : ℕ) (f : scan.Found (List A))
+    (l : List ℤ) (from : ℕ) (l' : List ℤ) (r : Found ℕ) : Type 0
+  where
+    pub found : Finds length f r
+    pub words : Wrote l from (map held (words_of f.value)) l' (from + width * r.value)

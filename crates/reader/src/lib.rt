@@ -20,6 +20,7 @@ mod table; // the words of the claim that a text is scanned as
 const MOST_WORDS: usize = 3 * MAX_EMITTED_NODES + MAX_EMITTED_QUANTIFIERS + 4;
 
 // Whether the writer takes these words, and writes this text.
+#[tactic(auto, using(solver::proofs::Answers::laid), unfolding(crate::specs::Answer::writes))]
 fn written(text: &[u8], words: &[i32]) -> bool
     ensures { result ≡ writes words.now text.now }
 {

@@ -17,6 +17,7 @@ const MARK: i64 = 2005;
 const OPENING: usize = 75;
 
 // A number as a word holds it.
+#[tactic(auto, using(crate::proofs::Words::held_or_0))]
 fn held(n: i64) -> i32
     ensures { result ≡ held n }
 {
@@ -56,7 +57,8 @@ fn put_nodes<'a>(text: &'a [u8], words: &mut [i32]) -> Found<'a, usize>
     }
 }
 
-// The quantifiers whose lines the text begins with, put from a place of the words on, and how many they are.
+// The quantifiers whose lines the text begins with, put from a place of the words on, and how many they are. One function for both would take what is
+// tested, scanned and put as closures: more contract than these loops have code.
 fn put_quantifiers<'a>(text: &'a [u8], words: &mut [i32], from: usize) -> Found<'a, usize>
     requires { from + limits.quantifiers ≤ length words.old }
     ensures put { RunPut (map quantifier_word) 1 (quantifiers_from most limits.quantifiers text.now) words.old from words.new result }

@@ -36,7 +36,8 @@ digits n h = decimal-length 9 n h
 one_short : (s : List ℕ) (n : ℕ) (t : List ℕ) → Ten n → length (one_text s n t) ≤ length s + 10 + length t
 one_short s n t h = simp length-append (omega (arith, digits n h))
 
-two_short : (s : List ℕ) (a : ℕ) (m : List ℕ) (b : ℕ) (t : List ℕ) → Ten a → Ten b → length (two_text s a m b t) ≤ length s + 10 + length m + 10 + length t
+two_short : (s : List ℕ) (a : ℕ) (m : List ℕ) (b : ℕ) (t : List ℕ) → Ten a → Ten b
+    → length (two_text s a m b t) ≤ length s + 10 + length m + 10 + length t
 two_short s a m b t h k = simp length-append (omega (arith, digits a h, digits b k))
 
 -- ---- words
@@ -60,7 +61,8 @@ constant_short (negsuc n) h = omega (arith, one_short (bytes "(- ") (suc n) (byt
 multiple_short : (w : ℤ) (b : ℕ) → Ten (nat_abs w) → Ten b → length (multiple_text w b) ≤ 40
 multiple_short (pos n) b h k =
     rw (multiple_from_0 (pos n) b (le-ltb n 0 (omega arith))) (omega (arith, two_short (bytes "(* ") n (bytes " n") b (bytes ")") h k))
-multiple_short (negsuc n) b h k = rw (multiple_below (negsuc n) b refl) (omega (arith, two_short (bytes "(* (- ") (suc n) (bytes ") n") b (bytes ")") h k))
+multiple_short (negsuc n) b h k =
+    rw (multiple_below (negsuc n) b refl) (omega (arith, two_short (bytes "(* (- ") (suc n) (bytes ") n") b (bytes ")") h k))
 
 divided_short : (w : ℤ) (b : ℕ) → Ten (nat_abs w) → Ten b → length (divided_text w b) ≤ 40
 divided_short (pos zero) b h k = rw (divided_0 (pos zero) b refl) (omega (arith, one_short (bytes "(and false (= n") b (bytes " 0))") k))
@@ -108,7 +110,8 @@ module _ (a b : ℤ) (f : SFits w32 a) (g : SFits w32 b) where
   pub line_short : (i kind : ℕ) → Ten i → length (node_line i (node_of (pos kind) a b)) ≤ longest_line
   line_short i kind h =
       let n = node_of (pos kind) a b in
-      rw (line_parts i n, length-append (one_text (bytes "(let ((n") i (bytes " ")) (expr_text (expr_of n) ++ bytes "))\n"), length-append (expr_text (expr_of n)) (bytes "))\n"))
+      let last = expr_text (expr_of n) ++ bytes "))\n" in
+      rw (line_parts i n, length-append (one_text (bytes "(let ((n") i (bytes " ")) last, length-append (expr_text (expr_of n)) (bytes "))\n"))
       (omega (arith, one_short (bytes "(let ((n") i (bytes " ") h, expression_short kind))
 
 count_short : (s g : List ℕ) (i : ℕ) → length s ≤ 11 → length g ≤ 10 → Ten i → length (count_text s g i) ≤ longest_line
@@ -137,9 +140,10 @@ brackets_few (set_q some ∷ qs) = omega (arith, brackets_few qs)
 brackets_few (count_q some ∷ qs) = omega (arith, brackets_few qs)
 
 pub text_short : (ws : List ℤ) {s : Shape} → Laid ws s → s.root < 2 ^ 64
-    → length (node_lines 0 (claim_of ws).nodes) ≤ longest_line * s.nodes → length (quantifier_lines 0 (claim_of ws).quantifiers) ≤ longest_line * s.quantifiers
+    → length (node_lines 0 (claim_of ws).nodes) ≤ longest_line * s.nodes
+    → length (quantifier_lines 0 (claim_of ws).quantifiers) ≤ longest_line * s.quantifiers
     → length (text_of (claim_of ws)) < 2 ^ 64
 text_short ws {s} laid r ns qs =
     let c = claim_of ws in
-    let root = root_short s.root r in
-    omega (arith, text_length c, ns, qs, brackets_few c.quantifiers, rw laid.root at root, laid.nodes, laid.quantifiers, laid.few_nodes, laid.few_quantifiers)
+    let root = rw laid.root at (root_short s.root r) in
+    omega (arith, text_length c, brackets_few c.quantifiers, laid.nodes, laid.quantifiers, laid.few_nodes, laid.few_quantifiers)

@@ -22,14 +22,17 @@ unfolding node_lines
 node_lines-append k [] b = rw add-zero
 node_lines-append k (n ∷ a) b =
     let e : suc k + length a ≡ k + suc (length a) = omega arith in
-    ap (λ l. node_line k n ++ l) (node_lines-append (suc k) a b) ∙ rw e (sym (append_assoc (node_line k n) (node_lines (suc k) a) _))
+    let rest = ap (λ l. node_line k n ++ l) (node_lines-append (suc k) a b) in
+    rest ∙ rw e (sym (append_assoc (node_line k n) (node_lines (suc k) a) _))
 
-quantifier_lines-append : (k : ℕ) (a b : List Quantifier) → quantifier_lines k (a ++ b) ≡ quantifier_lines k a ++ quantifier_lines (k + length a) b
+quantifier_lines-append : (k : ℕ) (a b : List Quantifier)
+    → quantifier_lines k (a ++ b) ≡ quantifier_lines k a ++ quantifier_lines (k + length a) b
 unfolding quantifier_lines
 quantifier_lines-append k [] b = rw add-zero
 quantifier_lines-append k (q ∷ a) b =
     let e : suc k + length a ≡ k + suc (length a) = omega arith in
-    ap (λ l. quantifier_line k q ++ l) (quantifier_lines-append (suc k) a b) ∙ rw e (sym (append_assoc (quantifier_line k q) (quantifier_lines (suc k) a) _))
+    let rest = ap (λ l. quantifier_line k q ++ l) (quantifier_lines-append (suc k) a b) in
+    rest ∙ rw e (sym (append_assoc (quantifier_line k q) (quantifier_lines (suc k) a) _))
 
 brackets-append : (a b : List Quantifier) → brackets (a ++ b) ≡ brackets a + brackets b
 unfolding brackets
@@ -71,10 +74,12 @@ module _ (ws : List ℤ) where
   pub nodes_more : (i : ℕ) → i < length ns → node_lines 0 (take (i + 1) ns) ≡ node_lines 0 (take i ns) ++ node_line i (node_at ws i)
   unfolding node_lines
   nodes_more i h =
-      rw (take_more ns i unknown h, node_lines-append 0 (take i ns), zero-add (length (take i ns)), length-front ns i h, append-nil (node_line i (get_or ns i unknown)), node_at_lem i h)
+      rw (take_more ns i unknown h, node_lines-append 0 (take i ns), zero-add (length (take i ns)), length-front ns i h)
+      (rw (append-nil (node_line i (get_or ns i unknown)), node_at_lem i h))
 
   -- node i from its words
-  pub node_is : (i : ℕ) {k : ℕ} {x y : ℤ} → k ≡ word_at ws (3 * i) → x ≡ word ws (3 * i + 1) → y ≡ word ws (3 * i + 2) → node_at ws i ≡ node_of (pos k) x y
+  pub node_is : (i : ℕ) {k : ℕ} {x y : ℤ} → k ≡ word_at ws (3 * i) → x ≡ word ws (3 * i + 1) → y ≡ word ws (3 * i + 2)
+      → node_at ws i ≡ node_of (pos k) x y
   unfolding node_of number word_at
   node_is i e f g = rw (e, f, g)
 
@@ -82,12 +87,15 @@ module _ (ws : List ℤ) where
   module _ (n i : ℕ) {k : ℕ} (all : n ≡ length ns) (h : i < length qs) (is : k ≡ word_at ws (3 * n + i)) where
     quantifier_at_lem : get_or qs i (int_q true) ≡ quantifier_of (pos k)
     unfolding claim_of quantifier_of number word_at
-    quantifier_at_lem = tab_at (quantifiers_in ws) (quantifier_at ws (nodes_in ws)) (int_q true) i (omega (arith, quantifier_count)) ∙ rw (← node_count_lem, ← all, is)
+    quantifier_at_lem =
+        tab_at (quantifiers_in ws) (quantifier_at ws (nodes_in ws)) (int_q true) i (omega (arith, quantifier_count))
+        ∙ rw (← node_count_lem, ← all, is)
 
     pub quantifiers_more : quantifier_lines 0 (take (i + 1) qs) ≡ quantifier_lines 0 (take i qs) ++ quantifier_line i (quantifier_of (pos k))
     unfolding quantifier_lines
     quantifiers_more =
-        rw (take_more qs i (int_q true) h, quantifier_lines-append 0 (take i qs), zero-add (length (take i qs)), length-front qs i h, append-nil (quantifier_line i (get_or qs i (int_q true))), quantifier_at_lem)
+        rw (take_more qs i (int_q true) h, quantifier_lines-append 0 (take i qs), zero-add (length (take i qs)), length-front qs i h)
+        (rw (append-nil (quantifier_line i (get_or qs i (int_q true))), quantifier_at_lem))
 
     pub brackets_more : brackets (take (i + 1) qs) ≡ brackets (take i qs) + opened_by (quantifier_of (pos k))
     brackets_more =

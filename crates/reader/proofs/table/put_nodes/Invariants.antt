@@ -8,4 +8,5 @@ use Rattle.reader.proofs.Lefts.{Left}
 use Rattle.reader.proofs.table.put_nodes.Given as goal
 
 abbrev pub invariant-loop-i : goal.invariant-loop-i
-invariant-loop-i l = Left nodes_words 3 (nodes_from most limits.nodes l.text) l.initial.words 0 l.words l.i (nodes_from most (limits.nodes - l.i) l.rest)
+invariant-loop-i l =
+    Left nodes_words 3 (nodes_from most limits.nodes l.text) l.initial.words 0 l.words l.i (nodes_from most (limits.nodes - l.i) l.rest)

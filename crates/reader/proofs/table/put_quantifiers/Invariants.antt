@@ -8,4 +8,6 @@ use Rattle.reader.proofs.Lefts.{Left}
 use Rattle.reader.proofs.table.put_quantifiers.Given as goal
 
 abbrev pub invariant-loop-i : goal.invariant-loop-i
-invariant-loop-i l = Left (map quantifier_word) 1 (quantifiers_from most limits.quantifiers l.text) l.initial.words l.from l.words l.i (quantifiers_from most (limits.quantifiers - l.i) l.rest)
+invariant-loop-i l =
+    let left = quantifiers_from most (limits.quantifiers - l.i) l.rest in
+    Left (map quantifier_word) 1 (quantifiers_from most limits.quantifiers l.text) l.initial.words l.from l.words l.i left

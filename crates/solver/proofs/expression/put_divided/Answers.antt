@@ -18,4 +18,5 @@ returns-then-w-lt0 g c =
 pub returns-else-w-lt0 : goal.returns-else-w-lt0
 returns-else-w-lt0 g c =
     let n = c.from-n.ensures ∙ rw (to_z-of_z w32 c.args.w c.ranges.w) at c.unsigned_abs.ensures.value in
-    rw (divided_above c.args.w c.args.b (λ z. c.if-n-eq0.false (n ∙ z)) (rw (to_z-of_z w32 c.args.w c.ranges.w) at c.if-w-lt0.false), ← n) c.put_two-else-w-lt0.ensures
+    let sign = rw (to_z-of_z w32 c.args.w c.ranges.w) at c.if-w-lt0.false in
+    rw (divided_above c.args.w c.args.b (λ z. c.if-n-eq0.false (n ∙ z)) sign, ← n) c.put_two-else-w-lt0.ensures

@@ -1,5 +1,5 @@
 -- `solver::lines::put_node` meets its contract. Assumes nothing.
-use Rattle.std.proofs.Common.{◌+◌, ◌*◌, refl, arith, rules}
+use Rattle.std.proofs.Common.{◌+◌, ◌*◌, refl, rules}
 use Rattle.std.proofs.lemmas.Int.{to_z-of_z}
 use mir.Syntax.{w32}
 use mir.Val.{SFits}
