@@ -32,7 +32,7 @@ use Rattle.checker.proofs.Passed.{accepted_good, good_accepted}
 use Rattle.checker.proofs.Rowwise.{range, over_range, Obeys, fits_served}
 use Rattle.checker.proofs.Reading.{claim_sorted, same_words, sets_counted, kinds_taken, quantifiers_taken}
 use Rattle.checker.proofs.Fitting.{sort_kind, fits_at, counted}
-use Rattle.checker.proofs.Bools.{joint}
+use Rattle.std.proofs.lemmas.Bool.{and_from}
 
 -- ---- accepted words
 
@@ -147,7 +147,7 @@ module _ (d : Dialect) (c : Claim) where
     obeyed i h None o = absurd o
     obeyed i h (Some row) o =
         let l : length (take i c.nodes) ≡ i = length-take-le i c.nodes (omega arith) in
-        rw (a_at i h, b_at i h) (joint (rw l at o.0) (rw l at o.1))
+        rw (a_at i h, b_at i h) (and_from _ _ (rw l at o.0) (rw l at o.1))
 
     node_passes : (i : ℕ) → i < n → node_good (table_at ws n q) i ≡ true
     node_passes i h =

@@ -1,7 +1,5 @@
-pub mod Bools
 pub mod Search
 pub mod Signed
-pub mod Rows
 pub mod Sorts
 pub mod Verdict
 pub mod Words

@@ -4,7 +4,7 @@ use mathlib.Core.Bool.{Bool, true, false, not, cond, ◌&&◌}
 use mathlib.Core.List.{List, [], ◌∷◌}
 use Prim.Native.Nat.{ℕ, zero, suc, ◌+◌, ◌*◌, ◌-◌, ◌≤◌, ◌<◌}
 use native.Mathlib.Omega.{arith}
-use borrow.Author.Tests.{ltb-false, leb-true, eqb-true, eqb-false, not-false}
+use borrow.Author.Tests.{ltb-false, leb-true, eqb-true, not-false}
 use lib.Dec.{eqb}
 use Rattle.std.proofs.lemmas.Bool.Decides.{nat_tests}
 use lib.IntN.{ℤ}
@@ -21,7 +21,7 @@ use Rattle.checker.specs.Table.{Table, node_good, bad_node, root_good, bad_quant
 use Rattle.checker.specs.Check.{Test, verdict, quantifier_tests, node_tests, shape_tests, check_as, table_at, shape_of}
 use Rattle.checker.proofs.Search.{first_none, first_all, count_mono, count_yes}
 use Rattle.checker.proofs.Verdict.{shape_passes, parts_pass}
-use Rattle.checker.proofs.Bools.{both}
+use Rattle.std.proofs.lemmas.Bool.{and_parts}
 
 -- A table that obeys the rules, and words that hold one.
 pub record GoodTable (d : Dialect) (t : Table) : Type 0 where
@@ -62,21 +62,14 @@ passed (t ∷ ts) ok s e = go t.holds refl e (passed ts ok s)
 few : (limit : ℕ) (t : Table) (n : ℕ) → ((i : ℕ) → i < n → one_too_many limit t i ≡ false) → count (binds_set t) n ≤ limit
 unfolding count
 few limit t zero h = omega arith
-few limit t (suc n) h = go (binds_set t n) refl (few limit t n (λ i l. h i (omega arith)))
-  where
-    go : (b : Bool) → binds_set t n ≡ b → count (binds_set t) n ≤ limit → count (binds_set t) n + cond b 1 0 ≤ limit
-    go true e l =
-        let f : eqb (count (binds_set t) n) limit ≡ false = rw e at (h n (omega arith)) in
-        let g : count (binds_set t) n ≡ limit → ⊥ = eqb-false _ limit f in
-        omega arith
-    go false e l = omega arith
+few limit t (suc n) h = grind (arith, nat_tests, few limit t n, h n)
 
 good_table : (d : Dialect) (t : Table) (base width root : ℕ) → Failed (quantifier_tests d t base) → Failed (node_tests d t width root) → GoodTable d t
 good_table d t base width root f g =
     let quantifier : (i : ℕ) → i < t.quantifiers → (takes_quantifier d (t.quantifier i) ≡ true) × (is_some (range_of (t.quantifier i)) ≡ true) =
-    λ i h. both _ _ (not-false _ (first_none (bad_quantifier d t) t.quantifiers (ltb-false _ _ f.0) i h)) in
+    λ i h. and_parts _ _ (not-false _ (first_none (bad_quantifier d t) t.quantifiers (ltb-false _ _ f.0) i h)) in
     let node : (i : ℕ) → i < t.nodes → (takes_kind d (t.kind i) ≡ true) × (node_good t i ≡ true) =
-    λ i h. both _ _ (not-false _ (first_none (bad_node d t) t.nodes (ltb-false _ _ g.0) i h)) in
+    λ i h. and_parts _ _ (not-false _ (first_none (bad_node d t) t.nodes (ltb-false _ _ g.0) i h)) in
     record {
       few_sets = few (most_sets d) t t.quantifiers (first_none (one_too_many (most_sets d) t) t.quantifiers (ltb-false _ _ f.1.0));
       quantifier_taken_lem = λ i h. (quantifier i h).0;
@@ -89,7 +82,7 @@ good_table d t base width root f g =
 made_good : (d : Dialect) (ws : List ℤ) (n q : ℕ) → n ≡ nodes_in ws → q ≡ quantifiers_in ws
     → Failed (shape_tests d (length ws) (eqb (word_at ws (length ws - 1)) mark) n q 3) → GoodTable d (table_at ws n q) → Good d ws n q
 made_good d ws n q en eq f g =
-    let b = both _ _ (not-false _ f.1.1.0) in
+    let b = and_parts _ _ (not-false _ f.1.1.0) in
     record {
       marked = eqb-true _ mark (not-false _ f.1.0);
       nodes_are = en;

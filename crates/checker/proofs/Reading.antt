@@ -28,7 +28,7 @@ use Rattle.checker.proofs.Limits.{nodes_most, quantifiers_most, all_tab}
 use Rattle.checker.proofs.Passed.{Good}
 use Rattle.checker.proofs.Fitting.{counted}
 use Rattle.checker.proofs.Rowwise.{range, over_range, sort_is, looked, Obeys, NodeIs, node_is}
-use Rattle.checker.proofs.Bools.{both}
+use Rattle.std.proofs.lemmas.Bool.{and_parts}
 
 -- ---- quantifiers
 
@@ -98,7 +98,7 @@ module _ (d : Dialect) (ws : List ℤ) (good : Good d ws (nodes_in ws) (quantifi
   served i None e = absurd (false≢true e)
   served i (Some row) e =
       let t : Table = table_at ws n q in
-      rw (tab-length i (node_at ws), tab-length q (quantifier_at ws n)) (both (field_good t i row.a (t.a i)) (field_good t i row.b (t.b i)) e)
+      rw (tab-length i (node_at ws), tab-length q (quantifier_at ws n)) (and_parts (field_good t i row.a (t.a i)) (field_good t i row.b (t.b i)) e)
 
   abbrev SortsBelow : ℕ → Type 0
   SortsBelow i = (v : ℕ) → v < i → sort (node_at ws v) ≡ sort_of (kind_in ws v)

@@ -117,6 +117,7 @@ const ROWS: [Option<Row>; 28] = [
     FORMULA, // 27: not
 ];
 
+#[tactic(auto, using(std::proofs::lemmas::Bool::Decides::nat_tests), unfolding(crate::specs::Kinds::row_of))]
 pub fn row_of(kind: usize) -> Option<Row>
     ensures { result ≡ row_of kind }
 {

@@ -8,7 +8,6 @@ use Rattle.checker.specs.Kinds.{number, node_of, quantifier_of}
 use Rattle.checker.specs.Words.{word_at, claim_of}
 use Rattle.checker.specs.Sorts.{sets}
 use Rattle.checker.specs.Meaning.{value_of, values, matrix, set_at, num_at, truth_at}
-use Rattle.checker.proofs.Bools.{both_told}
 use Rattle.region.specs.Regions.{over}
 use Rattle.decider.specs.Rule.{joined, tries, rule}
 use Rattle.matrix.specs.Final.{final_values}
@@ -32,6 +31,10 @@ beq_is true true t = refl
 beq_is true false t = absurd t
 beq_is false true t = absurd t
 beq_is false false t = refl
+
+both_told : (a b : Bool) → T (a && b) → T a × T b
+both_told true b t = (tt, t)
+both_told false b t = absurd t
 
 right : (k : Case) → T (passes k) → Right k
 unfolding passes

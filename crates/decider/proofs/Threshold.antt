@@ -18,7 +18,7 @@ use Rattle.checker.specs.Words.{fields_of}
 use Rattle.checker.specs.Sorts.{sets}
 use Rattle.checker.specs.Meaning.{Set, Value, num, truth, as_set, as_num, as_truth, set_at, num_at, truth_at, eq_z, value_of, values, matrix, TrueAt}
 use Rattle.checker.proofs.Sorts.{inside}
-use Rattle.checker.proofs.Bools.{both}
+use Rattle.std.proofs.lemmas.Bool.{and_parts}
 use Rattle.region.specs.Regions.{Split, over, minus, regions}
 use Rattle.region.specs.Counting.{grow, HoldsR, TrueAtR}
 use Rattle.region.proofs.Quantified.{quantified_imp}
@@ -106,10 +106,10 @@ module _ (K : ℕ) where
     same_test m n v u w z j s t =
         ⊎_elim
         (λ e.
-        let b = both (is_cardinality m) (is_constant n) e in
+        let b = and_parts (is_cardinality m) (is_constant n) e in
         same_left (fields_of n).a v u w z (subst (λ k. Same k v u) (shape_counts m b.0) s) (subst (λ k. Same k w z) (shape_constant n b.1) t))
         (λ e.
-        let b = both (is_constant m) (is_cardinality n) e in
+        let b = and_parts (is_constant m) (is_cardinality n) e in
         same_right (fields_of m).a v u w z (subst (λ k. Same k v u) (shape_constant m b.0) s) (subst (λ k. Same k w z) (shape_counts n b.1) t))
         (or_one (is_cardinality m && is_constant n) (is_constant m && is_cardinality n) j)
 
@@ -167,7 +167,7 @@ module _ (K : ℕ) where
     unfolding values all_allowed largest
     same_values [] done vs us h o l i = same_truth done vs us h i
     same_values (n ∷ ns) done vs us h o l i =
-        let both = both (allowed done n) (all_allowed (done ++ n ∷ []) ns) o in
+        let both = and_parts (allowed done n) (all_allowed (done ++ n ∷ []) ns) o in
         same_values ns (done ++ n ∷ []) (vs ++ value_of (regions cs) qs vs n ∷ []) (us ++ value_of (regions ds) qs us n ∷ [])
         (same-snoc done vs us h n (value_of (regions cs) qs vs n) (value_of (regions ds) qs us n) (same_value done vs us h n both.0 (omega arith)))
         both.1 (omega arith) i
@@ -228,7 +228,7 @@ narrower lo hi lo' hi' k e a b = go (within lo' hi' k) refl
   where
     go : (t : Bool) → within lo' hi' k ≡ t → within lo' hi' k ≡ false
     go true f =
-        let h = both (leb lo' k) (leb k hi') f in
+        let h = and_parts (leb lo' k) (leb k hi') f in
         absurd (past lo hi k e (omega (arith, leb-true lo' k h.0)) (omega (arith, leb-true k hi' h.1)))
     go false f = f
 
@@ -250,7 +250,7 @@ no_numbers_lem : (done ns : List Node) → no_numbers ns ≡ true → (all_allow
 unfolding no_numbers all_allowed allowed largest
 no_numbers_lem done [] e = (refl, refl)
 no_numbers_lem done (n ∷ ns) e =
-    let both = both (not (within 10 16 (kind n) || within 20 22 (kind n))) (no_numbers ns) e in
+    let both = and_parts (not (within 10 16 (kind n) || within 20 22 (kind n))) (no_numbers ns) e in
     let here = plain_allowed (kind n) (joins (get_or done (number (fields_of n).a) unknown) (get_or done (number (fields_of n).b) unknown)) both.0 in
     let rest = no_numbers_lem (done ++ n ∷ []) ns both.1 in
     (ap₂ ◌&&◌ here.0 rest.0, rw (here.1, rest.1))

@@ -20,7 +20,7 @@ use Rattle.checker.specs.Accepted.{KindsTaken}
 use Rattle.checker.proofs.Words.{claim_words}
 use Rattle.checker.proofs.Accepted.{ClaimedAs, accepted_claim_as}
 use Rattle.checker.proofs.Emitted.{no_sets}
-use Rattle.checker.proofs.Bools.{joint}
+use Rattle.std.proofs.lemmas.Bool.{and_from}
 use Rattle.sentence.specs.Sentences.{AllPlain, Plain}
 use Rattle.sentence.specs.Text.{text_of}
 use Rattle.sentence.specs.Scan.{scan}
@@ -139,19 +139,19 @@ module _ (text : List ℕ) where
       let (k, e) = (and-eq-true_iff (accepts (check_as Emitted ws)) (same (text_of (claim_of ws)) text)).0 h in
       let (s, f) = accepted (check_as Emitted ws) k in
       let w = (accepted_claim_as Emitted ws s f).words in
-      (rw w (joint i k), same_true (text_of (claim_of ws)) text e)
+      (rw w (and_from _ _ i k), same_true (text_of (claim_of ws)) text e)
 
   reads_written : (c : Claim) → Reads WriterTakes text c → writes (map held (words_of c)) text ≡ true
   unfolding writes
   reads_written c (t, e) =
       let (i, k) = takes_parts c t in
-      rw (all_held (words_of c) i, claim_words c) (joint k (same_is e))
+      rw (all_held (words_of c) i, claim_words c) (and_from _ _ k (same_is e))
 
   pub writes_is : writes (map held (words_of (scan limits text))) text ≡ (takes (scan limits text) && same (text_of (scan limits text)) text)
   writes_is =
       let c = scan limits text in
       alike (writes (map held (words_of c)) text) (takes c && same (text_of c) text)
-      (λ h. let (t, e) = scanned_reads _ (written_reads (map held (words_of c)) (all_held_in (words_of c)) h) in joint t (same_is e))
+      (λ h. let (t, e) = scanned_reads _ (written_reads (map held (words_of c)) (all_held_in (words_of c)) h) in and_from _ _ t (same_is e))
       (λ h. let (t, s) = (and-eq-true_iff (takes c) (same (text_of c) text)).0 h in reads_written c (t, same_true (text_of c) text s))
 
   module _ (ws : List ℤ) (e : ws ≡ map held (words_of (scan limits text))) where

@@ -10,7 +10,7 @@ use borrow.Author.Tests.{eqb-true, eq-eqb}
 use lib.Dec.{eqb}
 use lib.ListN.{length, get_or}
 use Rattle.checker.specs.Meaning.{Set, every}
-use Rattle.checker.proofs.Bools.{both}
+use Rattle.std.proofs.lemmas.Bool.{and_parts}
 use Rattle.region.proofs.Regions.{twice_suc, twice_suc_one}
 use Rattle.region.specs.Regions.{dbl, Split}
 
@@ -44,7 +44,7 @@ every_make (suc n) s h = ap₂ ◌&&◌ (every_make n s (λ i l. h i (omega arit
 every_at : (n : ℕ) (s : Set) → every n s ≡ true → (i : ℕ) → i < n → s i ≡ true
 unfolding every
 every_at zero s e i h = absurd (omega arith)
-every_at (suc n) s e i h = let (first, last) = both (every n s) (s n) e in go last (λ l. every_at n s first i l) (ℕ_discrete i n)
+every_at (suc n) s e i h = let (first, last) = and_parts (every n s) (s n) e in go last (λ l. every_at n s first i l) (ℕ_discrete i n)
   where
     go : s n ≡ true → (i < n → s i ≡ true) → Dec (i ≡ n) → s i ≡ true
     go last earlier (yes d) = ap s d ∙ last
