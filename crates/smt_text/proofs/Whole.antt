@@ -12,12 +12,12 @@ use lib.IntN.{ℤ}
 use lib.ListN.{length}
 use Rattle.checker.specs.Claim.{Claim}
 use Rattle.checker.specs.Words.{claim_of, words_of}
-use Rattle.checker.specs.Check.{verdict}
+use Rattle.checker.specs.Check.{verdict, check_of}
 use Rattle.checker.proofs.Accepted.{accepted_claim}
 use Rattle.emission.specs.Emission.{emission}
-use Rattle.reducer.specs.Reduced.{reducer_tests, answer, reduced_of}
+use Rattle.reducer.specs.Reduced.{reducer_tests, admission, answer, reduced_of}
 use Rattle.reducer.proofs.Accepted.{accepted_nodes, accepted_quantifiers}
-use Rattle.reducer.proofs.Admitted.{admitted_room, claim_answer}
+use Rattle.reducer.proofs.Admitted.{admitted_room}
 use Rattle.reducer.proofs.Closed.{emission_sorted}
 use Rattle.sentence.specs.Text.{text_of}
 use Rattle.solver.specs.Written.{fitted}
@@ -33,12 +33,18 @@ fits : (c : Claim) → length (text_of c) ≤ lent_bytes → fitted_text c ≡ t
 unfolding fitted_text fitted written_text
 fits c h = rw (le-ltb lent_bytes (length (text_of c)) h)
 
+-- the reducer's answer for words that the checker accepts
+claim_reduced : (ws : List ℤ) (room : ℕ) {s : Shape} → check_of ws ≡ Ok s
+    → reduced_of ws room ≡ answer (emission (claim_of ws)) (verdict (reducer_tests room (emission (claim_of ws))) (Ok s))
+unfolding reduced_of admission
+claim_reduced ws room e = ap (λ v. answer (emission (claim_of ws)) (admission room (emission (claim_of ws)) v)) e
+
 -- what is emitted has room in the lent words
 emitted_room : (ws : List ℤ) (room n : ℕ) → reduced_of ws room ≡ Ok n → length (words_of (emission (claim_of ws))) ≤ room
 unfolding answer
 emitted_room ws room n e =
     let a = accepted ws room n e in
-    go (verdict (reducer_tests room (emission (claim_of ws))) (Ok a.0)) refl (sym (claim_answer ws room a.1) ∙ e)
+    go (verdict (reducer_tests room (emission (claim_of ws))) (Ok a.0)) refl (sym (claim_reduced ws room a.1) ∙ e)
   where
     go : (v : Result Shape Refusal) → verdict (reducer_tests room (emission (claim_of ws))) (Ok (accepted ws room n e).0) ≡ v
         → answer (emission (claim_of ws)) v ≡ Ok n → length (words_of (emission (claim_of ws))) ≤ room
