@@ -3,11 +3,11 @@
 use mathlib.Core.Path.{◌≡◌, refl, sym, ap, ap₂, ◌∙◌}
 use mathlib.Core.Bool.{Bool, true, false}
 use mathlib.Core.List.{List, [], ◌∷◌, append_assoc}
-use Prim.Native.Nat.{ℕ, suc, ◌+◌, ◌-◌, ◌≤◌, ◌<◌}
+use Prim.Native.Nat.{ℕ, suc, ◌+◌, ◌-◌, ◌≤◌, ◌<◌, min}
 use native.Mathlib.Numerals.{add-one}
 use native.Mathlib.Omega.{arith}
-use borrow.Author.Tests.{leb-true, leb-false}
-use lib.Dec.{leb}
+use native.Mathlib.Decide.{dec_lt}
+use Rattle.std.proofs.lemmas.Slice.{between_is}
 use lib.ListN.{length, take, drop, get_or, set, length-set, drop_of_length-le}
 use lib.Seq.{take-suc-set, get_or-take, take-take, take_at, drop_at, take-add, length-take-le}
 use Rattle.checker.specs.Claim.{Claim}
@@ -41,20 +41,15 @@ pub shorter : {A : Type 0} (m n : ℕ) (after mid before : List A) → m ≤ n �
 shorter m n after mid before h e q = sym (take-take m n after h) ∙ ap (take m) e ∙ take-take m n mid h ∙ q
 
 -- The final regions among those that stand: the entries of the array from `regions` on, up to `stop`.
-pub final_part : (l : List ℕ) (regions stop start : ℕ) → start ≡ stop - (stop - regions) → stop ≤ length l → take (stop - start) (drop start l) ≡ drop regions (take stop l)
-final_part l R s start e room = go (leb R s) refl
+pub final_part : (l : List ℕ) (regions h start : ℕ) → start ≡ min (h + h) regions → h + h ≤ length l → take (h + h - start) (drop start l) ≡ finals regions h l
+final_part l R h start e room = between_is l start (h + h) ∙ go (dec_lt (h + h) R)
   where
-    go : (t : Bool) → leb R s ≡ t → take (s - start) (drop start l) ≡ drop R (take s l)
-    go true d =
-        let le : R ≤ s = leb-true R s d in
-        let a : start ≡ R = omega arith in
-        let b : R + (s - R) ≡ s = omega arith in
-        rw a (sym (ap (λ z. drop R (take z l)) (sym b) ∙ ap (drop R) (take-add R (s - R) l) ∙ drop_at (take R l) (take (s - R) (drop R l)) R (length-take-le R l (omega arith))))
-    go false d =
-        let lt : s < R = leb-false R s d in
-        let a : s - start ≡ 0 = omega arith in
-        let short : length (take s l) ≤ R = omega (arith, length-take-le s l room) in
-        rw a (sym (drop_of_length-le (take s l) short))
+    short : length (take (h + h) l) ≤ h + h
+    short = omega (arith, length-take-le (h + h) l room)
+
+    go : Dec (h + h < R) → drop start (take (h + h) l) ≡ finals R h l
+    go (yes p) = drop_of_length-le (take (h + h) l) (omega (arith, short)) ∙ sym (drop_of_length-le (take (h + h) l) (omega (arith, short)))
+    go (no p) = ap (λ n. drop n (take (h + h) l)) (omega arith)
 
 -- Split h is made: e is what the counts were at entry, l what they were before it, with the same front, and `given` what they are then.
 module _ (h : ℕ) (e l given : List ℕ) (k : ℕ) (s : take (h + h) l ≡ take (h + h) e) (p : take (h + 1 + (h + 1)) given ≡ split (take (h + h) l) h k) where

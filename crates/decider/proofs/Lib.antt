@@ -14,3 +14,4 @@ pub mod Heap
 pub mod Passing
 pub mod Levels
 pub mod Settling
+pub mod Turns

@@ -21,7 +21,8 @@ use Rattle.matrix.specs.Known.{Counts, Open, Known}
 use Rattle.matrix.proofs.Known.{known_more, order_less}
 use Rattle.matrix.proofs.Open.{open_some}
 use Rattle.decider.specs.Rule.{split}
-use Rattle.decider.specs.Standing.{Total, finals, Passed, Prepared, Guided, Frame}
+use Rattle.decider.specs.Standing.{Total, finals, Passed, Frame}
+use Rattle.decider.specs.Setting.{Setting, Settles, Stands}
 use Rattle.decider.proofs.Total.{total, total_next}
 
 -- ---- the final regions that stand before split h
@@ -87,19 +88,20 @@ known_passed c N order n regions h r l m xs p u =
     let f = finals_more (take (h + h) l) more regions in
     subst (λ z. Known c N z order n xs) (sym (ap (drop regions) front ∙ f.1)) (known_more c N order n (finals regions h l) f.0 xs u)
 
--- ---- what a call leaves as it was
+-- ---- what stands
 
-pub prepared_kept : {ws : List ℤ} {patterns order : List ℕ} {room room' size rows : ℕ} → room' ≡ room → Prepared ws patterns order room size rows → Prepared ws patterns order room' size rows
-prepared_kept e p = rw e p
-
--- and what a shorter order asks
-pub prepared_less : {ws : List ℤ} {patterns order : List ℕ} {room size rows to : ℕ} → to ≤ rows → Prepared ws patterns order room size rows → Prepared ws patterns order room size to
-prepared_less {ws} {size = size} {rows = rows} {to = to} l p =
-    record { ready = p.ready; filled = p.filled; ordered = order_less (claim_of ws) size _ rows to l p.ordered; roomy = p.roomy; small = p.small }
-
-pub guided_kept : {c : Claim} {somes : List Bool} {upto patterns order : List ℕ} {room room' rows regions : ℕ} → room' ≡ room → Guided c somes upto patterns order room rows regions
-    → Guided c somes upto patterns order room' rows regions
-guided_kept e g = rw e g
+module _ {s : Setting} (f : Settles s) where
+  -- Regions without ports are passed over.
+  pub stands_passed : {h known r : ℕ} {counts after : List ℕ} {values : List ℤ} → Stands s h known counts values → Passed s.regions h counts r after → length after ≡ length counts
+      → Stands s r known after values
+  stands_passed {h} {known} {r} {counts} {after} {values} t p e =
+      record {
+        place = (omega (arith, t.place, p.from), p.upto);
+        total = p.total s.size t.total;
+        few = t.few;
+        shown = known_passed (claim_of s.words) s.size s.order known s.regions h r counts after values p t.shown;
+        roomy = (omega (arith, t.roomy, e), t.roomy.1);
+      }
 
 -- ---- arrays
 

@@ -9,7 +9,8 @@ use Rattle.checker.specs.Words.{claim_of}
 use Rattle.checker.specs.Sorts.{is_set_q}
 use Rattle.checker.specs.Search.{first}
 use Rattle.checker.specs.Check.{Test, test, verdict, check_of}
-use Rattle.decider.specs.declared.allowance.Reply.{Reply}
+use Rattle.decider.specs.declared.allowance.Found.{Found}
+use Rattle.decider.specs.declared.allowance.Spent as held
 use Rattle.decider.specs.declared.Decision.{Decision}
 use Rattle.decider.specs.declared.Decision.TheVariants.{True, False, Spent}
 use Rattle.matrix.specs.Bound.{first_over}
@@ -44,8 +45,9 @@ unfoldable pub outcome_of : Ruling → ℕ → Decision
 outcome_of r allowance = cond (leb r.steps allowance) (cond r.truth (True r.steps) (False r.steps)) (Spent allowance)
 
 -- what a reply says, with the steps taken
-abbrev pub said : Reply → Decision
-said x = cond x.ended (cond x.truth (True x.rest.taken) (False x.rest.taken)) (Spent x.rest.taken)
+abbrev pub said : Result Found held.Spent → Decision
+said (Ok f) = cond f.truth (True f.rest.taken) (False f.rest.taken)
+said (Err s) = Spent s.taken
 
 unfoldable pub decided : Ruling → ℕ → Result Shape Refusal → Result Decision Refusal
 decided r allowance (Ok s) = Ok (outcome_of r allowance)

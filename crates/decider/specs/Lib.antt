@@ -4,5 +4,7 @@ pub mod Plan
 pub mod Answer
 pub mod Decision
 pub mod Standing
+pub mod Setting
+pub mod Held
 pub mod Threshold
 pub mod Small

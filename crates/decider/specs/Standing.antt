@@ -3,16 +3,13 @@
 use Rattle.std.specs.Prelude.{◌≡◌, Bool, true, false, List, ℕ, ◌+◌, ◌-◌, ◌^◌, ◌≤◌, ◌<◌, ℤ, length, get_or, take, drop}
 use Rattle.checker.specs.declared.Shape.{Shape}
 use Rattle.checker.specs.Claim.{Quantifier, Claim}
-use Rattle.checker.specs.Words.{claim_of}
 use Rattle.checker.specs.Sorts.{sets}
-use Rattle.checker.specs.Check.{max_sets}
 use Rattle.region.specs.Regions.{over}
 use Rattle.matrix.specs.Entry.{Filled}
 use Rattle.matrix.specs.Order.{Has, Order}
-use Rattle.matrix.specs.Known.{Ready, Scheduled}
+use Rattle.matrix.specs.Known.{Scheduled}
 use Rattle.decider.specs.Rule.{rule}
 use Rattle.decider.specs.Plan.{some_at, plan_of}
-use Rattle.decider.specs.Decision.{max_size}
 
 -- ---- counts
 
@@ -38,23 +35,6 @@ pub record Passed (regions h : ℕ) (before : List ℕ) (r : ℕ) (after : List 
 abbrev pub Somes : List Bool → List Quantifier → ℕ → Type 0
 Somes somes qs end = (h : ℕ) → 0 < h → h < end → get_or somes h false ≡ some_at qs 1 h
 
--- The claim can be worked out at this size: the patterns and an order of `rows` nodes stand, and there is room for the values.
-pub record Prepared (ws : List ℤ) (patterns order : List ℕ) (room size rows : ℕ) : Type 0 where
-  pub ready : Ready ws size
-  pub filled : Filled (claim_of ws) (length (claim_of ws).nodes) patterns
-  pub ordered : Order (claim_of ws) order rows
-  pub roomy : length (claim_of ws).nodes ≤ room
-  pub small : size ≤ max_size
-
--- It is known which splits belong to an exists, and how many nodes the first final regions settle, and there is room for all counts.
-pub record Guided (c : Claim) (somes : List Bool) (upto patterns order : List ℕ) (room rows regions : ℕ) : Type 0 where
-  pub final : regions ≡ 2 ^ sets c.quantifiers
-  pub few : regions ≤ 2 ^ max_sets
-  pub roomy : regions + regions ≤ room
-  pub long : (regions ≤ length somes) × (regions ≤ length upto)
-  pub quantified : Somes somes c.quantifiers regions
-  pub scheduled : Scheduled patterns regions order rows upto
-
 -- All that a claim settles before a search stands: the patterns, an order of `rows` nodes, and of each split how far the order is settled and
 -- whether it belongs to an exists.
 pub record Arranged (c : Claim) (patterns order upto : List ℕ) (somes : List Bool) (rows regions : ℕ) : Type 0 where
@@ -65,15 +45,6 @@ pub record Arranged (c : Claim) (patterns order upto : List ℕ) (somes : List B
   pub long : (regions ≤ length somes) × (regions ≤ length upto)
   pub quantified : Somes somes c.quantifiers regions
   pub scheduled : Scheduled patterns regions order rows upto
-
--- A search can start at split h: the claim can be worked out at this size, the arrays are long enough, and the regions from h on have all ports.
-pub record Startable (ws : List ℤ) (root size regions h values : ℕ) (counts : List ℕ) : Type 0 where
-  pub ready : Ready ws size
-  pub small : size ≤ max_size
-  pub rooted : root ≡ (claim_of ws).root
-  pub roomy : (length (claim_of ws).nodes ≤ values) × (regions + regions ≤ length counts)
-  pub place : (0 < h) × (h ≤ regions)
-  pub total : Total counts h size
 
 -- The arrays that a decision is worked out in are long enough for the claim.
 pub record Frame (shape : Shape) (order upto somes values counts : ℕ) : Type 0 where

@@ -22,10 +22,17 @@ impl Allowance {
     }
 }
 
-// Whether the allowance sufficed, if so a truth, and the rest of the allowance.
+// A truth, and the rest of the allowance.
 #[derive(Clone, Copy)]
-pub struct Reply {
-    pub ended: bool,
+pub struct Found {
     pub truth: bool,
     pub rest: Allowance,
 }
+
+// The allowance did not suffice: all of it is taken.
+#[derive(Clone, Copy)]
+pub struct Spent {
+    pub taken: u64,
+}
+
+pub type Reply = Result<Found, Spent>;

@@ -13,6 +13,7 @@ ghost use Rattle.decider.specs.Standing.{Frame};
 
 use allowance::{Allowance, Reply};
 use checker::{Refusal, Shape};
+use search::Search;
 
 mod admission; // refusals 9 to 11
 mod allowance; // steps, paid for one at a time
@@ -32,15 +33,10 @@ pub enum Decision {
 fn decision_of(x: Reply) -> Decision
     ensures { result ≡ said x }
 {
-    let steps = x.rest.taken;
-    if x.ended {
-        if x.truth {
-            Decision::True(steps)
-        } else {
-            Decision::False(steps)
-        }
-    } else {
-        Decision::Spent(steps)
+    match x {
+        Ok(found) if found.truth => Decision::True(found.rest.taken),
+        Ok(found) => Decision::False(found.rest.taken),
+        Err(spent) => Decision::Spent(spent.taken),
     }
 }
 
@@ -65,20 +61,18 @@ fn rule_in(
     let arrangement = prepare::prepare(words, shape, patterns, order, upto, somes);
     counts[0] = 0;
     counts[1] = size;
-    search::search(
+    let search = Search {
         words,
         patterns,
         order,
         upto,
         somes,
-        arrangement,
-        shape.root,
+        rows: arrangement.rows,
+        regions: arrangement.regions,
+        root: shape.root,
         size,
-        1,
-        counts,
-        values,
-        a,
-    )
+    };
+    search.search(counts, values, 0, 1, a)
 }
 
 // The same in arrays with room for so many regions: clearing larger ones is a good part of a short call.
@@ -127,6 +121,7 @@ fn rule_on(words: &[i32], size: u32, shape: Shape, a: Allowance) -> Reply
 }
 
 // Whether the claim is true at size n, in at most `allowance` evaluations of its matrix.
+#[tactic(auto, using(crate::proofs::Answer::said_is), unfolding(crate::specs::Decision::decided, crate::specs::Decision::decision_of))]
 pub fn decide(words: &[i32], n: u32, allowance: u64) -> Result<Decision, Refusal>
     ensures { result ≡ decision_of words.now n allowance }
 {
