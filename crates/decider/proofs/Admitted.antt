@@ -18,6 +18,7 @@ use Rattle.checker.proofs.Search.{first_none, found_some, found_none}
 use Rattle.checker.proofs.Claims.{sound}
 use Rattle.matrix.specs.Bound.{first_over}
 use Rattle.decider.specs.Plan.{only_sets}
+use Rattle.decider.proofs.Levels.{sets_all}
 use Rattle.decider.specs.Decision.{max_size, binds_number, first_number, decider_tests, admission}
 
 only_sets_lem : (qs : List Quantifier) → ((i : ℕ) → i < length qs → is_set_q (get_or qs i (int_q true)) ≡ true) → T (only_sets qs)
@@ -51,3 +52,6 @@ admitted N c (Err r) x e = cc
 
 -- for the code, which makes the tests one by one
 pub ruleset in_order = (nat_tests, found_some, found_none, sound)
+
+-- what an admitted claim's shape says
+pub ruleset known = (admitted, sound, sets_all)

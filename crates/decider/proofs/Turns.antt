@@ -55,7 +55,7 @@ module _ {s : Setting} {h known : ℕ} {start : List ℕ} {before : List ℤ} {a
 
   -- k is tried, and the children get their counts `given`
   module _ {k : ℕ} {counts : List ℕ} (given : List ℕ) {values : List ℤ} {rest : Allowance} (t : Tried s h known start before a some k counts values rest)
-    (l : k ≤ get_or start h 0) (p : take (h + 1 + (h + 1)) given ≡ split (take (h + h) counts) h k) where
+      (l : k ≤ get_or start h 0) (p : take (h + 1 + (h + 1)) given ≡ split (take (h + h) counts) h k) where
     -- what stands then
     pub stands_below : {first : ℕ} {xs : List ℤ} → Settles s → Stands s h first start xs → h < s.regions → known ≡ max first (get_or s.upto (h + h - s.regions) 0)
         → Known (claim_of s.words) s.size (finals s.regions h start) s.order known before → length given ≡ length start → length values ≡ length xs → Stands s (h + 1) known given values

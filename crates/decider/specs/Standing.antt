@@ -35,17 +35,6 @@ pub record Passed (regions h : ℕ) (before : List ℕ) (r : ℕ) (after : List 
 abbrev pub Somes : List Bool → List Quantifier → ℕ → Type 0
 Somes somes qs end = (h : ℕ) → 0 < h → h < end → get_or somes h false ≡ some_at qs 1 h
 
--- All that a claim settles before a search stands: the patterns, an order of `rows` nodes, and of each split how far the order is settled and
--- whether it belongs to an exists.
-pub record Arranged (c : Claim) (patterns order upto : List ℕ) (somes : List Bool) (rows regions : ℕ) : Type 0 where
-  pub final : regions ≡ 2 ^ sets c.quantifiers
-  pub filled : Filled c (length c.nodes) patterns
-  pub ordered : Order c order rows
-  pub rooted : Has order rows c.root
-  pub long : (regions ≤ length somes) × (regions ≤ length upto)
-  pub quantified : Somes somes c.quantifiers regions
-  pub scheduled : Scheduled patterns regions order rows upto
-
 -- The arrays that a decision is worked out in are long enough for the claim.
 pub record Frame (shape : Shape) (order upto somes values counts : ℕ) : Type 0 where
   pub nodes : (shape.nodes ≤ order) × (shape.nodes ≤ values)

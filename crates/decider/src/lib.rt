@@ -17,8 +17,7 @@ use search::Search;
 
 mod admission; // refusals 9 to 11
 mod allowance; // steps, paid for one at a time
-mod prepare; // what is settled before a search
-mod search; // the splits, in order
+mod search; // what is settled before, and the splits in order
 mod somes; // which splits belong to an exists
 
 // True or false with the steps taken; or the allowance is spent, all of it.
@@ -41,6 +40,7 @@ fn decision_of(x: Reply) -> Decision
 }
 
 // The rule's reply, from one region of all ports, worked out in lent arrays.
+#[tactic(auto, using(crate::proofs::Admitted::known))]
 fn rule_in(
     words: &[i32],
     size: u32,
@@ -58,20 +58,9 @@ fn rule_in(
     requires roomy { Roomy shape patterns.old × Frame shape (length order.old) (length upto.old) (length somes.old) (length values.old) (length counts.old) }
     ensures { result ≡ reply (ruling size (claim_of words.now)) a }
 {
-    let arrangement = prepare::prepare(words, shape, patterns, order, upto, somes);
+    let search = Search::prepare(words, size, shape, patterns, order, upto, somes);
     counts[0] = 0;
     counts[1] = size;
-    let search = Search {
-        words,
-        patterns,
-        order,
-        upto,
-        somes,
-        rows: arrangement.rows,
-        regions: arrangement.regions,
-        root: shape.root,
-        size,
-    };
     search.search(counts, values, 0, 1, a)
 }
 

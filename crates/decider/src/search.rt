@@ -4,10 +4,15 @@ ghost use Rattle.checker.specs.Words.{claim_of};
 ghost use Rattle.matrix.specs.Known.{Known, Kept};
 ghost use Rattle.decider.specs.Rule.{split};
 ghost use Rattle.decider.specs.Answer.{reply};
+ghost use Rattle.decider.specs.Decision.{admission};
+ghost use Rattle.checker.specs.Check.{check_of};
+ghost use Rattle.region.specs.Pattern.{Roomy};
 ghost use Rattle.decider.specs.Standing.{finals, Passed};
 ghost use Rattle.decider.specs.Setting.{Stands, ruling_from};
 
 use crate::allowance::{Allowance, Found, Reply, Spent};
+use crate::somes;
+use checker::Shape;
 use std::marker::Model;
 
 // Region h is split, and k of its ports are inside: 2 h is outside, 2 h + 1 inside.
@@ -38,15 +43,15 @@ fn pass(counts: &mut [u32], regions: usize, h: usize) -> usize
 // and which splits belong to an exists.
 #[derive(Drop)]
 pub struct Search<'a> {
-    pub words: &'a [i32],
-    pub patterns: &'a [u64],
-    pub order: &'a [usize],
-    pub upto: &'a [usize],
-    pub somes: &'a [bool],
-    pub rows: usize,
-    pub regions: usize,
-    pub root: usize,
-    pub size: u32,
+    words: &'a [i32],
+    patterns: &'a [u64],
+    order: &'a [usize],
+    upto: &'a [usize],
+    somes: &'a [bool],
+    rows: usize,
+    regions: usize,
+    root: usize,
+    size: u32,
 }
 
 impl<'a> Model for Search<'a> {
@@ -59,6 +64,39 @@ impl<'a> Model for Search<'a> {
     ghost view = { setting_of };
 
     ghost invariant = { λ s. Settles (setting_of s) };
+}
+
+impl<'a> Search<'a> {
+    // Settles all of that in lent arrays.
+    #[tactic(auto, using(crate::proofs::Admitted::known))]
+    pub fn prepare(
+        words: &'a [i32],
+        size: u32,
+        shape: Shape,
+        patterns: &'a mut [u64],
+        order: &'a mut [usize],
+        upto: &'a mut [usize],
+        somes: &'a mut [bool],
+    ) -> Search<'a>
+        requires words_value { (admission size (claim_of words.now) (check_of words.now) ≡ Ok shape) × Roomy shape patterns.old }
+        requires nodes_in_bounds { (shape.nodes ≤ length order.old) × (2 ^ shape.sets < length upto.old) × (2 ^ shape.sets ≤ length somes.old) }
+        ensures { (result.words ≡ words.now) × (result.size ≡ size) × (result.regions ≡ 2 ^ shape.sets) }
+    {
+        matrix::patterns::prepare(words, shape, patterns);
+        let rows = matrix::order::arrange(words, shape, patterns, order, upto);
+        let regions = somes::fill_somes(words, shape, somes);
+        Search {
+            words,
+            patterns,
+            order,
+            upto,
+            somes,
+            rows,
+            regions,
+            root: shape.root,
+            size,
+        }
+    }
 }
 
 impl Search<'_> {

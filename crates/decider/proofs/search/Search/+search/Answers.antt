@@ -17,8 +17,7 @@ search-step-requires-clause-stands t c =
 pub search-splits-requires : goal.search-splits-requires
 search-splits-requires t c =
     let stands = rw (← c.self.view_is) at c.requires.stands in
-    let regions = ap (λ s. s.regions) c.self.view_is in
-    (
+    let regions = ap (λ s. s.regions) c.self.view_is in (
       omega (arith, c.decreases, c.pass-first.ensures.from, c.pass-first.ensures.upto, c.if-first-self.false, regions),
       (
         rw (← c.self.view_is) (stands_passed c.self.invariant stands c.pass-first.ensures c.pass-first.auto.counts),
@@ -38,8 +37,7 @@ splits-loop-k-init t c =
 
 pub splits-search-requires : goal.splits-search-requires
 splits-search-requires t c =
-    let settles = rw c.self.view_is at c.self.invariant in
-    (
+    let settles = rw c.self.view_is at c.self.invariant in (
       omega (arith, c.decreases, c.requires.h_lt_regions),
       (
         stands_below _ c.loop-k.invariant c.loop-k-test.true c.children.ensures settles c.requires.stands c.requires.h_lt_regions c.advance-next.ensures.value
@@ -73,18 +71,18 @@ splits-loop-k-preserved t c =
 pub splits-returns-clause-value : goal.splits-returns-clause-value
 splits-returns-clause-value t c =
     elim c.loop-k-test.branch [
-      splits-else-loop-k-test w ↦ absurd (omega arith)
-    | splits-then-loop-k-test+in_ok-found+else-found-some+else-k-k-end w ↦
-        rw w.rest-is
-        (tried_all
-        (goes_on _ c.loop-k.invariant w.loop-k-test.true w.children.ensures w.search.ensures.value (omega arith) w.in_ok-found.was w.if-found-some.false
-        w.search.ensures.counts_unchanged w.search.ensures.kept) (omega arith))
+      | splits-else-loop-k-test w ↦ absurd (omega arith)
+      | splits-then-loop-k-test+in_ok-found+else-found-some+else-k-k-end w ↦
+          rw w.rest-is
+          (tried_all
+          (goes_on _ c.loop-k.invariant w.loop-k-test.true w.children.ensures w.search.ensures.value (omega arith) w.in_ok-found.was w.if-found-some.false
+          w.search.ensures.counts_unchanged w.search.ensures.kept) (omega arith))
     ]
 
 pub splits-returns-clause-counts_unchanged : goal.splits-returns-clause-counts_unchanged
 splits-returns-clause-counts_unchanged t c =
     elim c.loop-k-test.branch [
-      splits-else-loop-k-test w ↦ ap (take _) w.counts-is ∙ c.loop-k.invariant.stands
-    | splits-then-loop-k-test+in_ok-found+else-found-some+else-k-k-end w ↦
-        ap (take _) w.counts-is ∙ still _ _ _ _ _ c.loop-k.invariant.stands w.children.ensures (omega arith) _ w.search.ensures.counts_unchanged
+      | splits-else-loop-k-test w ↦ ap (take _) w.counts-is ∙ c.loop-k.invariant.stands
+      | splits-then-loop-k-test+in_ok-found+else-found-some+else-k-k-end w ↦
+          ap (take _) w.counts-is ∙ still _ _ _ _ _ c.loop-k.invariant.stands w.children.ensures (omega arith) _ w.search.ensures.counts_unchanged
     ]
