@@ -1,16 +1,16 @@
 -- The laws of a ruling's reply under an allowance: how the reply to one try and the later tries make the reply to a run of tries. They hold
 -- for any rulings. Assumes nothing.
-use mathlib.Core.Path.{◌≡◌, refl, sym, ap, ◌∙◌}
-use mathlib.Core.Bool.{Bool, true, false, cond, not}
-use Prim.Native.Nat.{ℕ, suc, ◌+◌, ◌-◌, ◌≤◌, ◌<◌}
+use mathlib.Core.Path.{◌≡◌}
+use mathlib.Core.Bool.{Bool, cond, not}
+use Prim.Native.Nat.{ℕ, suc, ◌+◌, ◌-◌, ◌<◌}
 use native.Mathlib.Omega.{arith}
 use Rattle.std.proofs.Common.{Result, Ok, Err}
 use Rattle.std.proofs.lemmas.Bool.Decides.{nat_tests}
 use Rattle.decider.specs.declared.allowance.Allowance.{Allowance}
 use Rattle.decider.specs.declared.allowance.Found.{Found}
 use Rattle.decider.specs.declared.allowance.Spent.{Spent}
-use Rattle.decider.specs.Rule.{Ruling, stops, after, joined, tries}
-use Rattle.decider.specs.Answer.{later, ended, spent, reply}
+use Rattle.decider.specs.Rule.{Ruling, stops, joined, tries}
+use Rattle.decider.specs.Answer.{later, ended, reply}
 use Rattle.decider.specs.Decision.{outcome_of, said}
 
 same_allowance : (a b : Allowance) → a.left ≡ b.left → a.taken ≡ b.taken → a ≡ b

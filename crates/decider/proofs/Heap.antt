@@ -1,7 +1,7 @@
 -- The rule over a lent array of counts: region h stands at place h, and what the rule is given at split h is the array's front of 2 h entries.
 -- Assumes nothing.
-use mathlib.Core.Path.{◌≡◌, refl, sym, ap, ap₂, ◌∙◌}
-use mathlib.Core.Bool.{Bool, true, false}
+use mathlib.Core.Path.{◌≡◌, sym, ap, ap₂, ◌∙◌}
+use mathlib.Core.Bool.{Bool}
 use mathlib.Core.List.{List, [], ◌∷◌, append_assoc}
 use Prim.Native.Nat.{ℕ, suc, ◌+◌, ◌-◌, ◌≤◌, ◌<◌, min}
 use native.Mathlib.Numerals.{add-one}
@@ -9,7 +9,7 @@ use native.Mathlib.Omega.{arith}
 use native.Mathlib.Decide.{dec_lt}
 use Rattle.std.proofs.lemmas.Slice.{between_is}
 use lib.ListN.{length, take, drop, get_or, set, length-set, drop_of_length-le}
-use lib.Seq.{take-suc-set, get_or-take, take-take, take_at, drop_at, take-add, length-take-le}
+use lib.Seq.{take-suc-set, get_or-take, take-take, take_at, length-take-le}
 use Rattle.checker.specs.Claim.{Claim}
 use Rattle.decider.specs.Rule.{Ruling, Plan, tries, split, rule}
 use Rattle.decider.specs.Plan.{plan_of}

@@ -18,7 +18,7 @@ use Rattle.checker.specs.Sorts.{sets}
 use Rattle.checker.specs.Check.{max_nodes}
 use Rattle.region.specs.Regions.{over}
 use Rattle.matrix.specs.Known.{Counts, Open, Known}
-use Rattle.matrix.proofs.Known.{known_more, order_less}
+use Rattle.matrix.proofs.Known.{known_more}
 use Rattle.matrix.proofs.Open.{open_some}
 use Rattle.decider.specs.Rule.{split}
 use Rattle.decider.specs.Standing.{Total, finals, Passed, Frame}

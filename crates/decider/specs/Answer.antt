@@ -1,6 +1,6 @@
 -- What a ruling answers under an allowance of steps (01, "The decider"), which is spent one step at a time and handed on with what is left.
 -- Assumes nothing.
-use Rattle.std.specs.Prelude.{Bool, true, false, cond, ℕ, ◌+◌, ◌-◌, leb, Result, Ok, Err}
+use Rattle.std.specs.Prelude.{Bool, cond, ℕ, ◌+◌, ◌-◌, leb, Result, Ok, Err}
 use Rattle.decider.specs.declared.allowance.Allowance.{Allowance}
 use Rattle.decider.specs.declared.allowance.Found.{Found}
 use Rattle.decider.specs.declared.allowance.Spent.{Spent}

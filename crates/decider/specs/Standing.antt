@@ -1,13 +1,9 @@
 -- What stands while the search goes from split to split: the counts of the regions in a lent array, by their heap numbers, and what is
 -- filled before the first split. Assumes nothing.
-use Rattle.std.specs.Prelude.{◌≡◌, Bool, true, false, List, ℕ, ◌+◌, ◌-◌, ◌^◌, ◌≤◌, ◌<◌, ℤ, length, get_or, take, drop}
+use Rattle.std.specs.Prelude.{◌≡◌, Bool, true, false, List, ℕ, ◌+◌, ◌-◌, ◌^◌, ◌≤◌, ◌<◌, get_or, take, drop}
 use Rattle.checker.specs.declared.Shape.{Shape}
 use Rattle.checker.specs.Claim.{Quantifier, Claim}
-use Rattle.checker.specs.Sorts.{sets}
 use Rattle.region.specs.Regions.{over}
-use Rattle.matrix.specs.Entry.{Filled}
-use Rattle.matrix.specs.Order.{Has, Order}
-use Rattle.matrix.specs.Known.{Scheduled}
 use Rattle.decider.specs.Rule.{rule}
 use Rattle.decider.specs.Plan.{some_at, plan_of}
 

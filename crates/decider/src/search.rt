@@ -16,6 +16,7 @@ use checker::Shape;
 use std::marker::Model;
 
 // Region h is split, and k of its ports are inside: 2 h is outside, 2 h + 1 inside.
+#[tactic(auto, using(crate::proofs::Heap::placed))]
 fn children(counts: &mut [u32], h: usize, k: u32)
     requires h_nonzero { (0 < h) × (h + h + 2 ≤ length counts.old) }
     requires k_bound { k ≤ get_or counts.old h 0 }
@@ -39,8 +40,8 @@ fn pass(counts: &mut [u32], regions: usize, h: usize) -> usize
     regions
 }
 
-// A claim at a size, with what is settled before a search: the patterns, an order of `rows` nodes, how many places of it the first final regions settle,
-// and which splits belong to an exists.
+// A claim at a size, with what is settled before a search: the patterns, an order of `rows` nodes, how many places of it the first final regions
+// settle, and which splits belong to an exists.
 #[derive(Drop)]
 pub struct Search<'a> {
     words: &'a [i32],

@@ -1,19 +1,16 @@
 -- `decider::rule_in` meets its contract: the search starts with one region of all ports. Assumes nothing.
-use mathlib.Core.Path.{◌≡◌, refl, sym, ap, ap₂, ◌∙◌}
+use mathlib.Core.Path.{◌≡◌, refl, sym, ◌∙◌}
 use mathlib.Core.List.{List, [], ◌∷◌}
-use Prim.Native.Nat.{ℕ, ◌-◌, ◌^◌, ◌≤◌, zero-le}
+use Prim.Native.Nat.{ℕ, ◌≤◌, zero-le}
 use native.Mathlib.Nat.{add-zero}
 use native.Mathlib.Omega.{arith}
 use lib.ListN.{length, set, take, length-set}
 use lib.Pow.{pow_pos}
-use Rattle.checker.specs.Words.{claim_of}
 use Rattle.checker.specs.Check.{check_of}
 use Rattle.checker.proofs.Claims.{Sound, sound}
 use Rattle.region.specs.Regions.{over}
 use Rattle.matrix.proofs.Known.{known_none}
-use Rattle.decider.specs.Rule.{rule}
-use Rattle.decider.specs.Plan.{plan_of, ruling}
-use Rattle.decider.specs.Answer.{reply}
+use Rattle.decider.specs.Plan.{ruling}
 use Rattle.decider.specs.Standing.{Total}
 use Rattle.decider.proofs.Admitted.{admitted}
 use Rattle.decider.proofs.rule_in.Goals as goal

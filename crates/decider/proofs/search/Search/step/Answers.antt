@@ -2,7 +2,7 @@ use mathlib.Core.Path.{refl, ap, ap₂, ◌∙◌}
 use native.Mathlib.Omega.{arith}
 use Rattle.checker.specs.Words.{claim_of}
 use Rattle.decider.specs.Plan.{plan_of}
-use Rattle.decider.specs.Answer.{ended, reply}
+use Rattle.decider.specs.Answer.{ended}
 use Rattle.decider.proofs.Answer.{nothing_left, one_step}
 use Rattle.decider.proofs.Heap.{leaf, final_part}
 use Rattle.decider.proofs.Settling.{finals_counts}
