@@ -40,7 +40,7 @@ splits-search-requires t c =
     let settles = rw c.self.view_is at c.self.invariant in (
       omega (arith, c.decreases, c.requires.h_lt_regions),
       (
-        stands_below _ c.loop-k.invariant c.loop-k-test.true c.children.ensures settles c.requires.stands c.requires.h_lt_regions c.advance-next.ensures.value
+        stands_below _ c.loop-k.invariant (omega arith) c.children.ensures settles c.requires.stands c.requires.h_lt_regions c.advance-next.ensures.value
             c.advance-next.ensures.known_2 (c.children.auto.counts ∙ c.loop-k.auto.counts) (c.loop-k.auto.values ∙ c.advance-next.auto.values),
         omega (arith, c.loop-k.invariant.paid, c.requires.taken_bound),
       ),
@@ -49,7 +49,7 @@ splits-search-requires t c =
 pub splits-returns-in_err-found-clause-value : goal.splits-returns-in_err-found-clause-value
 splits-returns-in_err-found-clause-value t c =
     let r = err_from_is_err_and c.from_residual.result c.from_residual.ensures.1 in
-    r.1 ∙ ap Err r.2 ∙ spent_below _ c.loop-k.invariant c.loop-k-test.true c.children.ensures c.search.ensures.value c.in_err-found.was
+    r.1 ∙ ap Err r.2 ∙ spent_below _ c.loop-k.invariant (omega arith) c.children.ensures c.search.ensures.value c.in_err-found.was
 
 pub splits-returns-in_err-found-clause-counts_unchanged : goal.splits-returns-in_err-found-clause-counts_unchanged
 splits-returns-in_err-found-clause-counts_unchanged t c =
@@ -57,7 +57,7 @@ splits-returns-in_err-found-clause-counts_unchanged t c =
 
 pub splits-returns-then-found-some-clause-value : goal.splits-returns-then-found-some-clause-value
 splits-returns-then-found-some-clause-value t c =
-    found_below _ c.loop-k.invariant c.loop-k-test.true c.children.ensures c.search.ensures.value c.in_ok-found.was c.if-found-some.true
+    found_below _ c.loop-k.invariant (omega arith) c.children.ensures c.search.ensures.value c.in_ok-found.was c.if-found-some.true
 
 pub splits-returns-then-found-some-clause-counts_unchanged : goal.splits-returns-then-found-some-clause-counts_unchanged
 splits-returns-then-found-some-clause-counts_unchanged t c =
@@ -65,7 +65,7 @@ splits-returns-then-found-some-clause-counts_unchanged t c =
 
 pub splits-loop-k-preserved : goal.splits-loop-k-preserved
 splits-loop-k-preserved t c =
-    goes_on _ c.loop-k.invariant c.loop-k-test.true c.children.ensures c.search.ensures.value (omega arith) c.in_ok-found.was c.if-found-some.false
+    goes_on _ c.loop-k.invariant (omega arith) c.children.ensures c.search.ensures.value (omega arith) c.in_ok-found.was c.if-found-some.false
     c.search.ensures.counts_unchanged c.search.ensures.kept
 
 pub splits-returns-clause-value : goal.splits-returns-clause-value
@@ -75,7 +75,7 @@ splits-returns-clause-value t c =
       | splits-then-loop-k-test+in_ok-found+else-found-some+else-k-k-end w ↦
           rw w.rest-is
           (tried_all
-          (goes_on _ c.loop-k.invariant w.loop-k-test.true w.children.ensures w.search.ensures.value (omega arith) w.in_ok-found.was w.if-found-some.false
+          (goes_on _ c.loop-k.invariant (omega arith) w.children.ensures w.search.ensures.value (omega arith) w.in_ok-found.was w.if-found-some.false
           w.search.ensures.counts_unchanged w.search.ensures.kept) (omega arith))
     ]
 
