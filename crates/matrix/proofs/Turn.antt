@@ -1,12 +1,11 @@
 -- One turn of the evaluation: the node at place k of the order can be worked out, and once it is stored one place more is known. Assumes nothing.
-use mathlib.Core.Path.{◌≡◌, subst, ◌∙◌}
+use mathlib.Core.Path.{◌≡◌, subst}
 use mathlib.Core.Bool.{true}
 use mathlib.Core.List.{List}
-use Prim.Native.Nat.{ℕ, ◌+◌, ◌-◌, ◌^◌, ◌≤◌, ◌<◌}
+use Prim.Native.Nat.{ℕ, ◌+◌, ◌^◌, ◌≤◌, ◌<◌}
 use native.Mathlib.Omega.{arith}
 use lib.IntN.{ℤ, nat_abs}
-use lib.ListN.{length, get_or, set, take, drop, length-append, length-take, length-drop}
-use Rattle.std.proofs.lemmas.List.{get_or-take, get_or-drop}
+use lib.ListN.{length, get_or, set, length-append}
 use Rattle.checker.specs.Claim.{Claim, unknown}
 use Rattle.checker.specs.Sorts.{sets}
 use Rattle.checker.specs.Words.{word, node_at, claim_of}
@@ -30,14 +29,6 @@ open_le c N front o = omega (arith, over-append front o.rest (λ r. true), o.cou
 -- and they are no more than all
 open_few : (c : Claim) (N : ℕ) (front : List ℕ) → Open c N front → length front ≤ 2 ^ sets c.quantifiers
 open_few c N front o = omega (arith, length-append front o.rest, o.counts.regions)
-
--- the places of the order from `known` up to `to`, as the code goes over them
-module _ (order : List ℕ) (known to k : ℕ) (h : k < length (take (to - known) (drop known order))) where
-  pub turn_below : known + k < to
-  turn_below = omega (arith, h, simp (length-take, length-drop) at h)
-
-  pub turn_place : get_or (take (to - known) (drop known order)) k 0 ≡ get_or order (known + k) 0
-  turn_place = get_or-take (to - known) (drop known order) k 0 (omega (arith, turn_below)) ∙ get_or-drop known order k 0
 
 module _ (ws : List ℤ) (N : ℕ) (ready : Ready ws N) (patterns : List ℕ) (filled : Filled (claim_of ws) (length (claim_of ws).nodes) patterns)
     (order : List ℕ) (known to : ℕ) (ordered : Order (claim_of ws) order to) (counts : List ℕ) (can : Open (claim_of ws) N counts)
@@ -74,9 +65,9 @@ module _ (ws : List ℤ) (N : ℕ) (ready : Ready ws N) (patterns : List ℕ) (f
     small = omega (arith, open_le (claim_of ws) N counts can);
   }
 
-  pub turned : (v : ℤ) → v ≡ work N ports xs (node_at ws i) → (next : ℕ) → next ≡ k + 1 → Known (claim_of ws) N counts order next (set xs i v)
-  turned v e next z =
+  pub turned : (v : ℤ) → v ≡ work N ports xs (node_at ws i) → Known (claim_of ws) N counts order (k + 1) (set xs i v)
+  turned v e =
       let ok = accepted_claim ws ready.shape ready.accepted in
       let below = ordered.nodes k h in
-      rw (z, e, ← is_node)
+      rw (e, ← is_node)
       (known_next (claim_of ws) ok.sorted.0 N ready.bounded patterns filled order to ordered k h counts (settled k from h) xs u (omega arith))

@@ -98,6 +98,9 @@ returns-in-22 c = grind (arith, nat_tests, to_z-of_z, number_bits, worked c.requ
 pub returns-in-23 : goal.returns-in-23
 returns-in-23 c = grind (arith, nat_tests, to_z-of_z, number_bits, worked c.requires.workable)
 
+pub returns-in-24 : goal.returns-in-24
+returns-in-24 c = grind (arith, nat_tests, to_z-of_z, number_bits, worked c.requires.workable)
+
 pub returns-in-25 : goal.returns-in-25
 returns-in-25 c = grind (arith, nat_tests, to_z-of_z, number_bits, worked c.requires.workable)
 
@@ -109,6 +112,3 @@ returns-in-27 c = grind (arith, nat_tests, to_z-of_z, number_bits, worked c.requ
 
 pub returns-in_default : goal.returns-in_default
 returns-in_default c = grind (arith, nat_tests, to_z-of_z, number_bits, worked c.requires.workable)
-
-pub returns-in_default-2 : goal.returns-in_default-2
-returns-in_default-2 c = grind (arith, nat_tests, to_z-of_z, number_bits, worked c.requires.workable)
