@@ -6,7 +6,6 @@ ghost use Rattle.std.specs.Prelude.{◌≡◌, ◌≤◌, length, take};
 
 use std::env::FillError;
 use std::rt::Env;
-use streams::Input;
 
 // Whether there is an argument with that number. What it begins with may be put into `buf`.
 fn is_given(rt: &impl Env, i: usize, buf: &mut [u8]) -> bool {
@@ -31,7 +30,7 @@ fn main(rt: HostRuntime) {
     let allowance_count = read_argument(&rt, 2, &mut allowance);
     // One byte more than an input text may have.
     let mut input = [0u8; 65536];
-    let Input::Bytes(count) = streams::read_input(&mut rt.stdin(), &rt, &mut input) else {
+    let Ok(count) = streams::read_input(&mut rt.stdin(), &rt, &mut input) else {
         return;
     };
     let mut out = [0u8; 64];
@@ -41,5 +40,5 @@ fn main(rt: HostRuntime) {
         &input[..count],
         &mut out,
     );
-    streams::write_output(&mut rt.stdout(), &rt, &out[..n]);
+    let _ = streams::write_output(&mut rt.stdout(), &rt, &out[..n]);
 }

@@ -1,15 +1,13 @@
 // Reads a claim from standard input, and prints the table of the claim that it is reduced to, or why it is refused.
 #![tactic(auto)]
 
-use streams::Input;
-
 fn main(rt: HostRuntime) {
     // One byte more than an input text may have.
     let mut input = [0u8; 65536];
-    let Input::Bytes(count) = streams::read_input(&mut rt.stdin(), &rt, &mut input) else {
+    let Ok(count) = streams::read_input(&mut rt.stdin(), &rt, &mut input) else {
         return;
     };
     let mut out = [0u8; 196608];
     let n = text::answer_reduce(&input[..count], &mut out);
-    streams::write_output(&mut rt.stdout(), &rt, &out[..n]);
+    let _ = streams::write_output(&mut rt.stdout(), &rt, &out[..n]);
 }
