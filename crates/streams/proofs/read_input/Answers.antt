@@ -1,9 +1,18 @@
-use Rattle.std.proofs.Common.{rules, ◌-◌, length, subst, ◌∙◌}
+-- `streams::read_input` meets its contract: what a turn reads stands behind what was read before. Assumes nothing.
+use Rattle.std.proofs.Common.{rules, ◌≡◌, ℕ, ◌+◌, ◌-◌, ◌≤◌, List, ◌++◌, length, take, length-take-le, sym, subst, ◌∙◌}
 use Rattle.std.specs.Io.KnownBytes.{Consumes}
 use Rattle.std.proofs.KnownBytes.{Consumes-trans}
+use Rattle.std.proofs.Math.Seq.{take-append-add}
+use Rattle.std.proofs.lemmas.List.{take-append-le}
 use Rattle.std.proofs.lemmas.Result.{IfOk-at_ok, MatchResult-at_ok}
-use Rattle.streams.proofs.Parts.{front_written}
+use borrow.Rule.Slice.PartMut.{put_mid, post_of}
 use Rattle.streams.proofs.read_input.Goals as goal
+
+-- the front up to the written elements, and then n of them
+front_written : (a k n : ℕ) (xs ys : List ℕ) → a ≤ length xs → n ≤ length ys → take a xs ++ take n ys ≡ take (a + n) (put_mid a k xs ys)
+front_written a k n xs ys within fits =
+    let front = take-append-add (take a xs) (ys ++ post_of a k xs) n in
+    sym (rw (length-take-le a xs within, take-append-le n ys (post_of a k xs) fits) at front)
 
 pub loop-done-preserved : goal.loop-done-preserved
 loop-done-preserved g c =
