@@ -22,6 +22,7 @@ fn put_text(words: &[i32], out: &mut [u8; 393216]) -> usize
     }
 }
 
+#[tactic(auto, using(crate::proofs::Taken::taken), unfolding(crate::specs::Lent::fitted_words, crate::specs::Lent::fitted_reduced))]
 fn smt_words(words: &[i32], out: &mut [u8; 393216]) -> usize
     ensures { Printed out.old (fitted_words words.now) out.new result }
 {

@@ -8,6 +8,7 @@ use Rattle.std.proofs.lemmas.List.{take-take, drop-take}
 use lib.IntN.{ℤ}
 use lib.ListN.{length, take, drop, length-take, length-drop, length-map}
 use lib.Seq.{drop-drop, take_at, drop_at}
+use Rattle.lent.proofs.Writing.{wrote_long}
 use Rattle.decimal.specs.Printing.{line_text}
 use Rattle.checker.specs.Claim.{Node, Claim}
 use Rattle.checker.specs.Words.{node_words, nodes_words, quantifier_word, trailer, words_of, claim_of, nodes_in}
@@ -99,3 +100,5 @@ module _ (ws : List ℤ) (is : words_of (claim_of ws) ≡ ws) where
       ++ (line_text (take (length ws - 4 - 3 * nodes_in ws) (drop (3 * nodes_in ws) ws)) ++ line_text (drop (length ws - 4) ws))
       ≡ table_text (claim_of ws)
   table_whole = rw (is, table_nodes) at (table_lines (claim_of ws))
+
+pub ruleset tables = (part_length, table_long, wrote_long)

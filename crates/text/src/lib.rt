@@ -29,6 +29,7 @@ pub fn read_input(input: &[u8], words: &mut [i32; 4096]) -> Option<usize>
     decimal::read_words(input, words)
 }
 
+#[tactic(auto, using(crate::proofs::Emissions::emissions), unfolding(crate::specs::Answer::reduce_words, crate::specs::Answer::reduced_text))]
 fn reduce_words(words: &[i32], out: &mut [u8; 196608]) -> usize
     ensures { Printed out.old (reduce_words words.now) out.new result }
 {
@@ -50,6 +51,7 @@ pub fn answer_reduce(input: &[u8], out: &mut [u8; 196608]) -> usize
     reduce_words(&words[..count], out)
 }
 
+#[tactic(auto, unfolding(crate::specs::Answer::decide_words, crate::specs::Answer::decision_text))]
 fn decide_words(words: &[i32], size: u32, allowance: u64, out: &mut [u8; 64]) -> usize
     ensures { Printed out.old (decide_words size allowance words.now) out.new result }
 {

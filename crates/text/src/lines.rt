@@ -58,6 +58,7 @@ fn put_nodes(out: &mut [u8], words: &[i32], nodes: usize) -> usize
 }
 
 // A table, from the words of its claim.
+#[tactic(auto, using(crate::proofs::Tables::tables))]
 pub fn put_table(out: &mut [u8], words: &[i32]) -> usize
     requires words_value { words_of (claim_of words.now) ≡ words.now }
     requires words_in_bounds { 12 * length words.now ≤ length out.old }
