@@ -20,6 +20,7 @@ pub fn read_input<R: Read>(stdin: &mut R, rt: &impl Eprint, buf: &mut [u8]) -> i
     ensures end { IfOk result (λ n. n < length buf.new → IsAtEnd (R.remaining stdin.new)) }
 {
     let mut done = 0;
+    // A `while`: how many bytes a read gives is the reader's to say.
     while done < buf.len() {
         let more = stdin
             .read(&mut buf[done..])

@@ -44,6 +44,7 @@ fn reduce_words(words: &[i32], out: &mut [u8; 196608]) -> usize
 pub fn answer_reduce(input: &[u8], out: &mut [u8; 196608]) -> usize
     ensures { Printed out.old (reduce_text input.now) out.new result }
 {
+    // An array and its length: no heap, a rule of the project.
     let mut words = [0i32; 4096];
     let Some(count) = read_input(input, &mut words) else {
         return lines::put_unread(out);
@@ -63,6 +64,8 @@ fn decide_words(words: &[i32], size: u32, allowance: u64, out: &mut [u8; 64]) ->
     }
 }
 
+// Reads as `answer_reduce` and `answer_smt` do: one function for the three would have to be given, as a closure with a contract of its own, what
+// the words are answered with, and that is longer.
 #[tactic(auto, using(crate::proofs::Answers::readings))]
 fn decide_input(input: &[u8], size: u32, allowance: u64, out: &mut [u8; 64]) -> usize
     ensures { Printed out.old (answered (decide_words size allowance) (input_words input.now)) out.new result }
