@@ -8,6 +8,12 @@ use checker::Shape;
 
 const MAX_BOUND: u64 = 1000000000;
 
+pub fn magnitude(w: i32) -> u64
+    ensures { result ≡ nat_abs w }
+{
+    u64::from(w.unsigned_abs())
+}
+
 // The bound of an earlier node, 0 where there is none.
 pub fn bound_at(bounds: &[u64], a: usize) -> u64
     ensures { result ≡ get_or bounds.now a 0 }
@@ -26,10 +32,10 @@ pub fn bound_of(words: &[i32], bounds: &[u64], i: usize, size: u32) -> u64
     let a = checker::word(words, 3 * i + 1);
     let b = checker::word(words, 3 * i + 2);
     match kind {
-        11 => u64::from(words[3 * i + 1].unsigned_abs()),
+        11 => magnitude(words[3 * i + 1]),
         12 | 16 => u64::from(size),
         13 | 14 => bound_at(bounds, a) + bound_at(bounds, b),
-        15 => u64::from(words[3 * i + 1].unsigned_abs()) * bound_at(bounds, b),
+        15 => magnitude(words[3 * i + 1]) * bound_at(bounds, b),
         _ => 0,
     }
 }

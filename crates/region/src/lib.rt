@@ -8,6 +8,7 @@ mod read; // the routines that read
 mod table; // where the words stand
 mod write; // the routines that write
 
+pub use form::Form;
 pub use read::{end, next, ports_in, size};
 pub use table::{NARROW, NARROW_SETS, WIDE};
 pub use write::{
