@@ -82,6 +82,16 @@ unfolding first_from
 from_miss p i zero j h l = absurd (omega arith)
 from_miss p i (suc k) j h l = grind (arith, nat_tests, from_miss p (suc i) k j)
 
+from_hit : (p : ℕ → Bool) (i k : ℕ) → first_from p i k < i + k → p (first_from p i k) ≡ true
+unfolding first_from
+from_hit p i zero h = absurd (omega arith)
+from_hit p i (suc k) h = go (p i) refl h (λ g. from_hit p (suc i) k g)
+  where
+    go : (b : Bool) → p i ≡ b → cond b i (first_from p (suc i) k) < i + suc k → (first_from p (suc i) k < suc i + k → p (first_from p (suc i) k) ≡ true)
+        → p (cond b i (first_from p (suc i) k)) ≡ true
+    go true e m r = e
+    go false e m r = r (omega arith)
+
 module _ (p : ℕ → Bool) (n : ℕ) where
   pub first_le : first p n ≤ n
   unfolding first
@@ -90,6 +100,10 @@ module _ (p : ℕ → Bool) (n : ℕ) where
   pub first_miss : (j : ℕ) → j < first p n → p j ≡ false
   unfolding first
   first_miss j h = from_miss p 0 n j (omega arith) h
+
+  pub first_hit : first p n < n → p (first p n) ≡ true
+  unfolding first
+  first_hit h = from_hit p 0 n (omega arith)
 
   -- none passes
   pub first_none : n ≤ first p n → (j : ℕ) → j < n → p j ≡ false

@@ -4,19 +4,22 @@ use mathlib.Core.Bool.{true}
 use mathlib.Core.List.{List, []}
 use Prim.Native.Nat.{ℕ, ◌+◌, ◌*◌, ◌-◌, ◌≤◌, ◌<◌}
 use native.Mathlib.Omega.{arith}
+use borrow.Author.Tests.{le-ltb}
 use lib.IntN.{ℤ}
 use lib.ListN.{length}
 use Rattle.std.proofs.lemmas.Bool.Decides.{nat_tests}
-use Rattle.std.specs.Prelude.{Ok, Err}
+use Rattle.std.specs.Prelude.{Result, Ok, Err}
 use Rattle.checker.specs.declared.Dialect.{Dialect}
+use Rattle.checker.specs.declared.refusals.Refusal.{Refusal}
 use Rattle.checker.specs.declared.refusals.Refusal.TheVariants as refused
+use Rattle.checker.specs.declared.Shape.{Shape}
 use Rattle.checker.specs.Search.{first}
 use Rattle.checker.specs.Words.{word_at, nodes_in, quantifiers_in, mark}
 use Rattle.checker.specs.Dialect.{most_nodes, most_quantifiers, most_sets}
 use Rattle.checker.specs.Table.{Table, bad_node, root_good, bad_quantifier, one_too_many}
 use Rattle.checker.proofs.Limits.{nodes_most, quantifiers_most}
 use Rattle.checker.proofs.Search.{found_some, found_none}
-use Rattle.checker.specs.Check.{verdict, parts_of, shape_of, rest_of, check_as}
+use Rattle.checker.specs.Check.{Test, verdict, parts_of, shape_of, rest_of, check_as}
 
 -- ---- refusals 1 to 3
 
@@ -42,6 +45,13 @@ pub parts_pass : (d : Dialect) (t : Table) (base width root : ℕ) → t.quantif
     → parts_of d t base width root [] ≡ Ok (shape_of t)
 unfolding verdict
 parts_pass d t base width root e4 e5 e6 e7 = grind (arith, nat_tests)
+
+-- a form with tests of its own between the quantifiers' and the nodes'
+pub at_extra : (d : Dialect) (t : Table) (base width root : ℕ) (extra : List Test) {r : Result Shape Refusal}
+    → t.quantifiers ≤ first (bad_quantifier d t) t.quantifiers → t.quantifiers ≤ first (one_too_many (most_sets d) t) t.quantifiers
+    → ((ok : Result Shape Refusal) → r ≡ verdict extra ok) → r ≡ parts_of d t base width root extra
+unfolding verdict
+at_extra d t base width root extra e4 e5 h = rw (le-ltb _ _ e4, le-ltb _ _ e5) (h _)
 
 -- for the code, which makes the tests one by one
 pub ruleset in_order = (nat_tests, nodes_most, quantifiers_most, found_some, found_none)

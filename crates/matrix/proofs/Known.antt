@@ -41,6 +41,9 @@ module _ (c : Claim) (N : ℕ) (order : List ℕ) (n : ℕ) where
   pub known_more : (front next : List ℕ) (xs : List ℤ) → Known c N front order n xs → Known c N (front ++ next) order n xs
   known_more front next xs u = record { shown = λ rest t. rw (append_assoc front next rest) (u.shown (next ++ rest) (rw (append_assoc front next rest) at t)) }
 
+  pub known_less : (m : ℕ) (front : List ℕ) (xs : List ℤ) → m ≤ n → Known c N front order n xs → Known c N front order m xs
+  known_less m front xs l u = record { shown = λ rest t k h. u.shown rest t k (omega arith) }
+
   pub known_kept : (front : List ℕ) (xs ys : List ℤ) → Kept order n xs ys → Known c N front order n xs → Known c N front order n ys
   known_kept front xs ys e u = record { shown = λ rest t k h. rw (e k h) (u.shown rest t k h) }
 

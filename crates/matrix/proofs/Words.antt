@@ -1,15 +1,27 @@
 -- Tests on a signed number's bits, as the code makes them, for words of any width. Assumes nothing.
-use Rattle.std.proofs.Common.{◌≡◌, refl, sym, ap, ◌∙◌, false, eqb, ℕ, zero, suc, ◌-◌, ◌%◌, ◌^◌, ◌≤◌, ◌<◌, ◌⊎◌, inl, inr, ℤ, pos, negsuc, w32, of_z, arith}
+use Rattle.std.proofs.Common.{◌≡◌, refl, sym, ap, ◌∙◌, false, eqb, ℕ, zero, suc, ◌-◌, ◌/◌, ◌%◌, ◌^◌, ◌≤◌, ◌<◌, ◌⊎◌, inl, inr, ℤ, pos, negsuc, w32, of_z, arith}
 use Rattle.std.proofs.Math.IntN.{neg_ℤ, nat_abs}
 use Rattle.std.proofs.Math.Nat.{mod-le}
+use Prim.Native.Nat.{zero-le}
+use native.Mathlib.Nat.{div-le_self, le_trans}
 use Rattle.std.proofs.lemmas.Bool.Decides.{nat_tests}
 use borrow.Author.Tests.{ne_eqb}
-use lib.Signed.{rem_z}
+use lib.Signed.{mag, quot_z, rem_z}
 use mir.Syntax.{Width}
 use mir.Val.{bits, hbits, SFits}
 use mir.ValLaws.{pow-bits}
 use Rattle.checker.specs.Kinds.{no_number, number}
 use Rattle.checker.specs.Meaning.{eq_z, divides}
+
+mag_neg : (r : ℕ) → mag (neg_ℤ (pos r)) ≤ r
+mag_neg zero = zero-le
+mag_neg (suc r) = omega arith
+
+mag_quot : (z d : ℤ) → mag (quot_z z d) ≤ nat_abs z
+mag_quot (pos a) (pos b) = div-le_self a b
+mag_quot (pos a) (negsuc b) = le_trans (mag_neg (a / suc b)) (div-le_self a (suc b))
+mag_quot (negsuc a) (pos b) = le_trans (mag_neg (suc a / b)) (div-le_self (suc a) b)
+mag_quot (negsuc a) (negsuc b) = div-le_self (suc a) (suc b)
 
 module _ (w : Width) where
   negative_same : (a b : ℕ) → a < 2 ^ hbits w → b < 2 ^ hbits w → eqb (2 ^ bits w - suc a) (2 ^ bits w - suc b) ≡ eqb a b
@@ -27,6 +39,9 @@ module _ (w : Width) where
   bits_pos (negsuc a) n p h e = absurd (omega (arith, p.sfits, pow-bits w))
 
   -- ---- division
+
+  pub quotient_fits : (z d : ℤ) → nat_abs z < 2 ^ hbits w → SFits w (quot_z z d)
+  quotient_fits z d h = record { sfits = omega (arith, mag_quot z d) }
 
   negative_zero : (r : ℕ) → r < 2 ^ hbits w → eqb (of_z w (neg_ℤ (pos r))) 0 ≡ eqb r 0
   negative_zero zero h = refl

@@ -1,7 +1,7 @@
 -- The bits of a number: by recursion on the place, and what the operations on words make of them. For any number of bits.
 -- Assumes nothing.
 use mathlib.Core.Path.{◌≡◌, refl, sym, ◌∙◌, ap}
-use mathlib.Core.Bool.{true, false, not, xor, ◌&&◌, ◌||◌, and-true}
+use mathlib.Core.Bool.{Bool, true, false, not, xor, ◌&&◌, ◌||◌, and-true}
 use Prim.Native.Nat.{ℕ, zero, suc, ◌+◌, ◌-◌, ◌*◌, ◌/◌, ◌%◌, ◌^◌, ◌≤◌, ◌<◌}
 use native.Mathlib.Decide.{dec_le}
 use native.Mathlib.Nat.{div-one, pow-succ', div-eq_of_lt, zero-div, mod-lt, mul_assoc, pow-suc, zero-lt-suc, lt_of_lt_of_le}
@@ -135,6 +135,14 @@ covers-not (suc k) p (suc r) h =
     let halves : (2 ^ suc k - 1 - p) / 2 ≡ 2 ^ k - 1 - p / 2 = omega (arith, pow-suc 2 k) in
     rw (covers-suc (2 ^ suc k - 1 - p) r, covers-suc p r, halves, leb-suc-suc (suc r) k) (covers-not k (p / 2) r (omega (arith, pow-suc 2 k)))
 
+-- the bits of p that q has not
+pub covers-minus : (k p q r : ℕ) → p < 2 ^ k → q < 2 ^ k → covers (bit_and p (2 ^ k - 1 - q)) r ≡ (covers p r && not (covers q r))
+covers-minus k p q r hp hq = rw (covers-and p (2 ^ k - 1 - q) r, covers-not k q r hq) (go (dec_le k r))
+  where
+    go : Dec (k ≤ r) → (covers p r && (ltb r k && not (covers q r))) ≡ (covers p r && not (covers q r))
+    go (yes h) = rw (covers_high k p r hp h)
+    go (no h) = let l : r < k = omega arith in rw (lt-ltb r k l)
+
 -- k bits that are all set
 pub covers_ones : (k r : ℕ) → covers (2 ^ k - 1) r ≡ ltb r k
 covers_ones k r =
@@ -148,6 +156,21 @@ covers_top k n r h = covers_shift (2 ^ k - 1) (k - n) r ∙ covers_ones k (k - n
     go : Dec (n ≤ r) → ltb (k - n + r) k ≡ ltb r n
     go (yes l) = rw (le-ltb (k - n + r) k (omega arith), le-ltb r n l)
     go (no l) = rw (lt-ltb (k - n + r) k (omega arith), lt-ltb r n (omega arith))
+
+pub covers_top_few : (k n r : ℕ) → n ≤ k → covers ((2 ^ k - 1) / 2 ^ (k - n)) r ≡ ltb r n
+covers_top_few k n r h = covers_shift (2 ^ k - 1) (k - n) r ∙ covers_ones k (k - n + r) ∙ go (dec_le n r)
+  where
+    go : Dec (n ≤ r) → ltb (k - n + r) k ≡ ltb r n
+    go (yes l) = rw (le-ltb (k - n + r) k (omega arith), le-ltb r n l)
+    go (no l) = rw (lt-ltb (k - n + r) k (omega arith), lt-ltb r n (omega arith))
+
+-- a set that is cut to n places of the k that there are
+pub cut_twice : (k n r : ℕ) (b : Bool) → n ≤ k → (ltb r n && (ltb r k && b)) ≡ (ltb r n && b)
+cut_twice k n r b h = go (dec_le n r)
+  where
+    go : Dec (n ≤ r) → (ltb r n && (ltb r k && b)) ≡ (ltb r n && b)
+    go (yes l) = rw (le-ltb r n l)
+    go (no l) = rw (lt-ltb r k (omega arith))
 
 -- ---- the number whose n bits are those of a set
 
