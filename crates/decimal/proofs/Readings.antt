@@ -1,22 +1,10 @@
 -- A text read piece by piece into a list: the words so far stand at its front, and the pieces that are left decide about the rest.
 -- Assumes nothing.
-use Rattle.std.proofs.Common.{◌≡◌, ◌≢◌, ℕ, zero, suc, ◌+◌, ◌-◌, ◌≤◌, Bool, true, false, not, cond, eqb, List, [], ◌∷◌, ◌++◌, ℤ, length, take, drop, set, Option, Some, None, refl, sym, ap, ◌∙◌, arith, add-one, ne_eqb, append-nil, length-set, take-append-drop, length-take-le, drop-drop}
-use Rattle.std.specs.List.{slice_split, onto_first, filter}
+use Rattle.std.proofs.Common.{◌≡◌, ◌≢◌, ℕ, zero, suc, ◌+◌, ◌-◌, ◌<◌, ◌≤◌, Bool, true, false, not, cond, eqb, List, [], ◌∷◌, ◌++◌, ℤ, length, get_or, take, drop, set, Option, Some, None, refl, sym, ap, ◌∙◌, arith, add-one, one-add, ne_eqb, append-nil, length-set, take-append-drop, length-take-le, drop-drop}
+use Rattle.std.specs.List.{slice_split, onto_first, filter, position_or_len}
 use Rattle.std.proofs.Math.Seq.{take-suc-set, drop-set-lt, append_snoc}
-use Rattle.std.proofs.lemmas.Iterator.{YieldsList}
 use native.Mathlib.Nat.{sub-zero}
 use Rattle.decimal.specs.Reading.{blank, is_word, on_first, pieces, word_in, Reading, stopped, after, read_pieces, read_text, scanned_of, onto}
-
--- ---- what one call of `next` says of the items that an iterator has left
-
-module _ {S A B : Type 0} {steps : S → Option A → S → Type 0} {v : A → B} {s : S} (t : S) where
-  pub none_left : (items : List B) → YieldsList steps v s items → steps s None t → items ≡ []
-  none_left [] y h = refl
-  none_left (i ∷ is) y h = absurd (y.runs.0 t h)
-
-  pub next_left : (items : List B) (x : A) → YieldsList steps v s items → steps s (Some x) t → (more : List B) × (items ≡ v x ∷ more) × YieldsList steps v t more
-  next_left [] x y h = absurd (y.runs x t h)
-  next_left (i ∷ is) x y h = let next = y.runs.1 x t h in (is, ap (λ (j : B). j ∷ is) (sym next.0), record { runs = next.1 })
 
 -- ---- the pieces that are not empty
 
@@ -25,6 +13,32 @@ has_bytes p = not (eqb (length p) 0)
 
 abbrev pub filled_pieces : List ℕ → List (List ℕ)
 filled_pieces text = filter has_bytes (slice_split blank text)
+
+-- The part in front ends before the first blank. The pieces of what is left are the parts behind it that are not empty.
+abbrev Cut : List ℕ → Type 0
+Cut text =
+    let n = position_or_len blank text in
+    (behind : List (List ℕ)) × (slice_split blank text ≡ take n text ∷ behind) × (filter has_bytes behind ≡ filled_pieces (drop n text))
+
+cut : (text : List ℕ) → Cut text
+cut [] = ([], refl, refl)
+cut (b ∷ bs) = go (blank b) refl (cut bs)
+  where
+    go : (t : Bool) → blank b ≡ t → Cut bs → Cut (b ∷ bs)
+    go true e c = (slice_split blank bs, rw e, rw (e, e))
+    go false e c = (c.0, rw (e, c.1, one-add), rw (e, one-add) c.2)
+
+pub none_filled : (text : List ℕ) → length text < 1 → filled_pieces text ≡ []
+none_filled [] h = refl
+none_filled (b ∷ bs) h = absurd (omega arith)
+
+pub first_filled : (text : List ℕ) → 1 ≤ length text → blank (get_or text 0 0) ≡ false
+    → filled_pieces text ≡ take (position_or_len blank text) text ∷ filled_pieces (drop (position_or_len blank text) text)
+first_filled [] h e = absurd (omega arith)
+first_filled (b ∷ bs) h e =
+    let c = cut bs in
+    let some = ne_eqb (suc (length (take (position_or_len blank bs) bs))) 0 (omega arith) in
+    rw (e, one-add, c.1, some, c.2)
 
 on_first_lem : (b : ℕ) (ps : List (List ℕ)) → on_first b ps ≡ onto_first b ps
 on_first_lem b [] = refl

@@ -1,5 +1,6 @@
 // Numbers and words read out of a text.
 ghost use Rattle.std.specs.Prelude.{◌≡◌, ◌≤◌, pos, neg_ℤ, length};
+ghost use Rattle.std.specs.List.{position_or_len};
 ghost use Rattle.decimal.specs.Reading.{blank, most_negative, next_in, number_in, word_in, read_text, scanned_of, onto};
 
 const MOST_NEGATIVE: u64 = 2147483648;
@@ -58,6 +59,13 @@ fn read_word(text: &[u8]) -> Option<i32>
     }
 }
 
+// How many bytes stand before the first blank.
+fn piece_length(text: &[u8]) -> usize
+    ensures { result ≡ position_or_len blank text.now }
+{
+    text.iter().position(|b| is_blank(*b)).unwrap_or(text.len())
+}
+
 // The words of a text, put into `out` from its start on, as far as they are words and have room. How many they are; or `None`, if the text holds
 // something else than words, or more of them than there is room for.
 pub fn read_words(text: &[u8], out: &mut [i32]) -> Option<usize>
@@ -65,15 +73,20 @@ pub fn read_words(text: &[u8], out: &mut [i32]) -> Option<usize>
     ensures out_after { out.new ≡ onto out.old (read_text (length out.old) text.now) }
 {
     let mut count = 0;
-    for piece in text
-        .split(|b| is_blank(*b))
-        .filter(|piece| !piece.is_empty())
-    {
-        if count == out.len() {
-            return None;
+    let mut rest = text;
+    // Over what is left, and not `split`: that makes a piece of each blank, and looks for the end of one that has no room.
+    while let [b, tail @ ..] = rest {
+        if is_blank(*b) {
+            rest = tail;
+        } else {
+            if count == out.len() {
+                return None;
+            }
+            let (piece, behind) = rest.split_at(piece_length(rest));
+            out[count] = read_word(piece)?;
+            count += 1;
+            rest = behind;
         }
-        out[count] = read_word(piece)?;
-        count += 1;
     }
     Some(count)
 }
