@@ -18,7 +18,7 @@ fn put_text(words: &[i32], out: &mut [u8; 393216]) -> usize
 {
     match solver::write_text(words, out) {
         Ok(n) => n,
-        Err(r) => text::put_refusal(out, r),
+        Err(r) => text::put_refusal(out, r.number(), r.place()),
     }
 }
 
@@ -29,7 +29,7 @@ fn smt_words(words: &[i32], out: &mut [u8; 393216]) -> usize
     let mut emission = [0i32; 16384];
     match reducer::reduce(words, &mut emission) {
         Ok(n) => put_text(&emission[..n], out),
-        Err(refusal) => text::put_refusal(out, refusal),
+        Err(refusal) => text::put_refusal(out, refusal.number(), refusal.place()),
     }
 }
 

@@ -41,8 +41,11 @@ abbrev pub mark : List ℕ → ℕ → List ℕ
 mark s n = s ++ decimal n
 
 -- the word refused, the number and the place, with one space between
-unfoldable pub refusal_text : Refusal → List ℕ
-refusal_text r = mark (bytes "refused ") (number_of r) ++ (mark (bytes " ") (place_of r) ++ (line_feed ∷ []))
+unfoldable pub refused_text : ℕ → ℕ → List ℕ
+refused_text number place = mark (bytes "refused ") number ++ (mark (bytes " ") place ++ (line_feed ∷ []))
+
+abbrev pub refusal_text : Refusal → List ℕ
+refusal_text r = refused_text (number_of r) (place_of r)
 
 -- refusal 0: no words are read
 unfoldable pub unread : List ℕ

@@ -36,7 +36,7 @@ fn reduce_words(words: &[i32], out: &mut [u8; 196608]) -> usize
     let mut emission = [0i32; 16384];
     match reducer::reduce(words, &mut emission) {
         Ok(n) => lines::put_table(out, &emission[..n]),
-        Err(r) => lines::put_refusal(out, r),
+        Err(r) => lines::put_refusal(out, r.number(), r.place()),
     }
 }
 
@@ -60,7 +60,7 @@ fn decide_words(words: &[i32], size: u32, allowance: u64, out: &mut [u8; 64]) ->
         Ok(Decision::True(steps)) => lines::put_steps(out, b"true ", steps),
         Ok(Decision::False(steps)) => lines::put_steps(out, b"false ", steps),
         Ok(Decision::Spent(steps)) => lines::put_steps(out, b"spent ", steps),
-        Err(r) => lines::put_refusal(out, r),
+        Err(r) => lines::put_refusal(out, r.number(), r.place()),
     }
 }
 
@@ -81,10 +81,10 @@ fn decide_input(input: &[u8], size: u32, allowance: u64, out: &mut [u8; 64]) -> 
 pub fn answer_decide(size: &[u8], allowance: &[u8], input: &[u8], out: &mut [u8; 64]) -> usize
     ensures { Printed out.old (decide_text size.now allowance.now input.now) out.new result }
 {
-    let (Some(n), Some(steps)) = (
-        decimal::read_number(size, LARGEST_SIZE),
-        decimal::read_number(allowance, LARGEST_ALLOWANCE),
-    ) else {
+    let Some(n) = decimal::read_number(size, LARGEST_SIZE) else {
+        return lines::put_unread(out);
+    };
+    let Some(steps) = decimal::read_number(allowance, LARGEST_ALLOWANCE) else {
         return lines::put_unread(out);
     };
     decide_input(input, n as u32, steps, out)

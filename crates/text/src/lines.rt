@@ -2,10 +2,8 @@
 ghost use Rattle.std.specs.Prelude.{◌≡◌, ◌+◌, ◌*◌, ◌≤◌, length};
 ghost use Rattle.lent.specs.Write.{Wrote};
 ghost use Rattle.checker.specs.Words.{claim_of, words_of};
-ghost use Rattle.text.specs.Answer.{mark, refusal_text, unread, steps_text, table_text, Printed};
+ghost use Rattle.text.specs.Answer.{mark, refused_text, unread, steps_text, table_text, Printed};
 ghost use Rattle.text.specs.Lines.{node_lines};
-
-use checker::Refusal;
 
 // Bytes, and then a number, which has at most twenty digits.
 fn put_mark(out: &mut [u8], at: usize, s: &[u8], n: u64) -> usize
@@ -17,22 +15,22 @@ fn put_mark(out: &mut [u8], at: usize, s: &[u8], n: u64) -> usize
     decimal::put_decimal(out, number, n)
 }
 
-pub fn put_refusal(out: &mut [u8], refusal: Refusal) -> usize
+pub fn put_refusal(out: &mut [u8], number: usize, place: usize) -> usize
     requires { 50 ≤ length out.old }
-    ensures { Printed out.old (refusal_text refusal) out.new result }
+    ensures { Printed out.old (refused_text number place) out.new result }
 {
-    let place = put_mark(out, 0, b"refused ", refusal.number() as u64);
-    let end = put_mark(out, place, b" ", refusal.place() as u64);
+    let space = put_mark(out, 0, b"refused ", number as u64);
+    let end = put_mark(out, space, b" ", place as u64);
     lent::put(out, end, b'\n')
 }
 
 // Refusal 0.
-#[tactic(auto, unfolding(crate::specs::Answer::unread))]
+#[tactic(auto, unfolding(crate::specs::Answer::unread, checker::specs::Refusals::number_of, checker::specs::Refusals::place_of))]
 pub fn put_unread(out: &mut [u8]) -> usize
     requires { 50 ≤ length out.old }
     ensures { Printed out.old unread out.new result }
 {
-    put_refusal(out, Refusal::Unread)
+    put_refusal(out, 0, 0)
 }
 
 // An outcome's word and its steps.

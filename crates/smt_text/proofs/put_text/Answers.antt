@@ -16,4 +16,4 @@ pub returns-in-Err : goal.returns-in-Err
 returns-in-Err c =
     let made = c.write_text.ensures in
     let room : length c.args.out.now ≡ lent_bytes = search rules in
-    refusal_printed _ _ _ c.requires room made.value made.out_after _ c.in-Err.is c.put_refusal.ensures
+    refusal_printed _ _ _ c.requires room made.value made.out_after _ c.in-Err.is (rw (c.number.ensures, c.place.ensures) at c.put_refusal.ensures)
