@@ -11,7 +11,7 @@ ghost use Rattle.solver.specs.Pieces.{multiple_text, divided_text};
 use crate::kinds::{
     AND, CONSTANT, DIFFERENCE, DIVIDES, EQUAL, LESS, MAXC, MULTIPLE, NOT, NUMBER, OR, SUM,
 };
-use crate::pieces::{put_number, put_one, put_pair, put_two};
+use crate::pieces::{put_one, put_pair, put_two};
 use crate::sinks::Sink;
 
 // A word as the checker reads it.
@@ -28,7 +28,7 @@ fn put_constant<S: Sink>(sink: &mut S, w: i32)
     if w < 0 {
         put_one(sink, b"(- ", n, b")");
     } else {
-        put_number(sink, n);
+        sink.put_number(n);
     }
 }
 

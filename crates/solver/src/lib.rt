@@ -10,7 +10,7 @@ ghost use Rattle.solver.specs.Laid.{Laid};
 ghost use Rattle.solver.specs.Written.{fitted, written_of, held_after, out_after};
 
 use checker::{Dialect, Refusal, Shape};
-use sinks::Text;
+use sinks::{Length, Text};
 
 mod expression; // the expression of a node
 mod kinds; // kinds by name
@@ -21,6 +21,16 @@ mod text; // the text of a claim
 
 pub use sinks::Sink;
 pub use text::put_text;
+
+// How long the text is.
+fn text_length(words: &[i32], shape: Shape) -> usize
+    requires { Laid words.now shape }
+    ensures { result ≡ length (text_of (claim_of words.now)) }
+{
+    let mut text = Length { length: 0 };
+    put_text(words, shape, &mut text);
+    text.length
+}
 
 // The text from the start of `out` on, if it has room there, and how long it is.
 fn text_into(words: &[i32], shape: Shape, out: &mut [u8]) -> usize
@@ -40,7 +50,7 @@ fn write_claim(words: &[i32], shape: Shape, out: &mut [u8]) -> Result<usize, Ref
     ensures value { result ≡ fitted (length out.old) (claim_of words.now) }
     ensures out_after { out.new ≡ held_after result (claim_of words.now) out.old }
 {
-    let needed = text_into(words, shape, &mut []);
+    let needed = text_length(words, shape);
     if out.len() < needed {
         return Err(Refusal::TooShort(needed));
     }

@@ -1,23 +1,13 @@
 // Bytes with one or two numbers between them.
-ghost use Rattle.decimal.specs.Printing.{decimal};
 ghost use Rattle.solver.specs.Pieces.{one_text, two_text, pair_text, count_text};
 
 use crate::sinks::Sink;
-
-// A number has at most twenty digits.
-pub fn put_number<S: Sink>(sink: &mut S, n: u64)
-    ensures { S.took sink.old (decimal n) sink.new }
-{
-    let mut digits = [0u8; 20];
-    let end = decimal::put_decimal(&mut digits, 0, n);
-    sink.put(&digits[..end]);
-}
 
 pub fn put_one<S: Sink>(sink: &mut S, s: &[u8], n: u64, t: &[u8])
     ensures { S.took sink.old (one_text s.now n t.now) sink.new }
 {
     sink.put(s);
-    put_number(sink, n);
+    sink.put_number(n);
     sink.put(t);
 }
 
@@ -25,7 +15,7 @@ pub fn put_two<S: Sink>(sink: &mut S, s: &[u8], a: u64, m: &[u8], b: u64, t: &[u
     ensures { S.took sink.old (two_text s.now a m.now b t.now) sink.new }
 {
     put_one(sink, s, a, m);
-    put_number(sink, b);
+    sink.put_number(b);
     sink.put(t);
 }
 
