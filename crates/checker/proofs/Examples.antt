@@ -100,7 +100,7 @@ examples_right = (
   (refl, refl) ▸ (refl, refl) ▸ (refl, refl) ▸ (refl, refl) ▸ (refl, refl) ▸ tt,
 )
 
--- ---- the refusals that no table is given: of a text, a size, an output or a number
+-- ---- the refusals that the checker itself does not give: of a text, an output, a size, a quantifier over numbers, a bound or a number
 
 pub record Telling : Type 0 where
   pub refusal : Refusal

@@ -87,8 +87,8 @@ unfolding first_from
 from_hit p i zero h = absurd (omega arith)
 from_hit p i (suc k) h = go (p i) refl h (λ g. from_hit p (suc i) k g)
   where
-    go : (b : Bool) → p i ≡ b → cond b i (first_from p (suc i) k) < i + suc k → (first_from p (suc i) k < suc i + k → p (first_from p (suc i) k) ≡ true)
-        → p (cond b i (first_from p (suc i) k)) ≡ true
+    go : (b : Bool) → p i ≡ b → cond b i (first_from p (suc i) k) < i + suc k
+        → (first_from p (suc i) k < suc i + k → p (first_from p (suc i) k) ≡ true) → p (cond b i (first_from p (suc i) k)) ≡ true
     go true e m r = e
     go false e m r = r (omega arith)
 

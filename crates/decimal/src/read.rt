@@ -59,7 +59,7 @@ fn read_word(text: &[u8]) -> Option<i32>
     }
 }
 
-// How many bytes stand before the first blank.
+// How many bytes stand before the first blank, all of them where there is none.
 fn piece_length(text: &[u8]) -> usize
     ensures { result ≡ position_or_len blank text.now }
 {

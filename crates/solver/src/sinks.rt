@@ -11,6 +11,7 @@ pub trait Sink {
     fn put(&mut self, bytes: &[u8])
         ensures { took self.old bytes.now self.new };
 
+    // A number's digits. A sink may have a shorter way.
     fn put_number(&mut self, n: u64)
         ensures { took self.old (decimal n) self.new }
     {
@@ -86,7 +87,7 @@ impl Sink for Text<'_> {
         self.length = end;
     }
 
-    // Straight into the slice, where any number has room: a run of digits put as bytes takes twice as long.
+    // Straight into the slice, where any number has room: with a run of digits put first, and copied, a write took half as long again.
     fn put_number(&mut self, n: u64) {
         if DIGITS <= self.out.len().saturating_sub(self.length) {
             self.length = decimal::put_decimal(self.out, self.length, n);

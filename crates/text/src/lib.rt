@@ -84,6 +84,7 @@ pub fn answer_decide(size: &[u8], allowance: &[u8], input: &[u8], out: &mut [u8;
     let Some(n) = decimal::read_number(size, LARGEST_SIZE) else {
         return lines::put_unread(out);
     };
+    // Not read where the size is none: it may be long.
     let Some(steps) = decimal::read_number(allowance, LARGEST_ALLOWANCE) else {
         return lines::put_unread(out);
     };
